@@ -1,0 +1,6 @@
+pub mod Begins
+pub mod Laws
+pub mod Lenenc
+pub mod Packet
+pub mod Steps
+pub mod Unread

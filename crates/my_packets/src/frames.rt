@@ -1,0 +1,328 @@
+// Bytes that came in pieces, and the messages that they hold.
+ghost use Rattle.std.specs.Prelude.{◌≡◌, ◌+◌, ◌<◌, ◌≤◌, ◌^◌, ◌++◌, [], length, drop, vec_len, IfOk, OnOk, OnErr};
+ghost use Rattle.std.specs.Borrow.{sem};
+ghost use Rattle.std.specs.Io.BufRead.{Rests};
+ghost use Rattle.my_packets.specs.Packet.{packet, missing};
+ghost use Rattle.my_packets.specs.Begins.{Begins};
+ghost use Rattle.my_packets.specs.Steps.{Steps, Shows, HandsOut};
+
+use plain_data::OutOfMemory;
+use std::alloc::Global;
+use std::marker::Model;
+use thiserror::Error;
+
+// Bytes that were handed out are given up once there are so many of them, and as many as are unread.
+const KEPT: usize = 65536;
+
+/// Why the bytes of a stream hold no further message.
+#[derive(Clone, Copy, Debug, PartialEq, Eq, Error)]
+pub enum FrameFault {
+    /// The next packet has the first sequence id, and should have the second.
+    #[error("packet {0} in place of packet {1}")]
+    BadSequence(u8, u8),
+    /// The next message is announced with so many bytes, which pass the limit.
+    #[error("{0} bytes are too long")]
+    TooLong(u64),
+}
+
+/// A message of a stream.
+#[derive(Clone, Copy, Debug)]
+pub struct Message<'a> {
+    /// Its bytes, without the packet's header.
+    pub payload: &'a [u8],
+    /// The number of stream bytes before its first packet.
+    pub place: u64,
+    /// The sequence id of the packet that follows it.
+    pub next_seq: u8,
+}
+
+// What the bytes of a stream begin with.
+enum Front {
+    // A whole message of so many bytes, behind its header.
+    Whole(usize),
+    // Less than a message, of which so many bytes are missing.
+    Part(usize),
+    Wrong(FrameFault),
+}
+
+/// The bytes of a stream as they are fed, and its messages one after the other.
+#[derive(Drop)]
+pub struct Frames {
+    store: Vec<u8>,
+    // The payload read last is from `start` to `from`, and what is unread is behind it.
+    start: usize,
+    from: usize,
+    began: u64,
+    place: u64,
+    id: u8,
+    limit: u32,
+}
+
+impl Model for Frames {
+    ghost use Rattle.std.specs.Prelude.{◌+◌, ◌-◌, ◌^◌, ◌≤◌, ◌<◌, drop, slice_range, vec_len};
+    ghost use Rattle.my_packets.specs.Unread.{Unread};
+
+    ghost Value = { Unread };
+
+    ghost view = { λ f. record { message = slice_range f.store.items f.start f.from; began = f.began; bytes = drop f.from f.store.items; place = f.place; id = f.id; limit = f.limit } };
+
+    ghost invariant = { λ f. (f.start ≤ f.from) × (f.from ≤ vec_len f.store) × (f.place + (vec_len f.store - f.from) ≤ 2 ^ 62) × (f.limit < 16777215) };
+}
+
+// What the bytes begin with, where the next packet has to have this sequence id.
+#[inline]
+#[tactic(auto, using(crate::proofs::Splits::wrong_id))]
+fn front_of(bytes: &[u8], id: u8, limit: u32) -> Front
+    ensures { Begins limit id bytes.now result }
+{
+    let [low, middle, high, found, payload @ ..] = bytes else {
+        return Front::Part(4 - bytes.len());
+    };
+    let size = *low as usize + 256 * *middle as usize + 65536 * *high as usize;
+    if *found != id {
+        return Front::Wrong(FrameFault::BadSequence(*found, id));
+    }
+    if size > limit as usize {
+        return Front::Wrong(FrameFault::TooLong(size as u64));
+    }
+    if payload.len() < size {
+        return Front::Part(size - payload.len());
+    }
+    Front::Whole(size)
+}
+
+// Gives up so many bytes at the front.
+fn give_up_front(store: &mut Vec<u8>, count: usize)
+    requires { count ≤ vec_len store.old }
+
+    ensures { store.new.items ≡ drop count store.old.items }
+{
+    let left = store.len() - count;
+    store.copy_within(count.., 0);
+    store.truncate(left);
+}
+
+impl Frames {
+    ghost use Rattle.my_packets.specs.contracts.frames.Frames.{the_row};
+
+    /// A stream of which nothing was fed, whose first packet has sequence id 0. A message may have at
+    /// most `limit` bytes. Takes no memory.
+    pub fn new(alloc: Global, limit: u32) -> Frames
+        requires one_packet { limit < 16777215 }
+
+        ensures { result ≡ record { message = []; began = 0; bytes = []; place = 0; id = 0; limit = limit } }
+    {
+        Frames {
+            store: Vec::new(alloc),
+            start: 0,
+            from: 0,
+            began: 0,
+            place: 0,
+            id: 0,
+            limit,
+        }
+    }
+
+    /// The next packet has to have this sequence id. Bytes that were fed and not handed out begin that
+    /// packet. Takes no memory.
+    pub fn start(&mut self, seq: u8)
+        ensures { self.new ≡ record self.old { id = seq } }
+    {
+        self.id = seq;
+    }
+
+    /// Adds bytes of the stream. A refusal, for want of memory, adds none. The payload read last is
+    /// forgotten.
+    pub fn feed(&mut self, piece: &[u8]) -> Result<(), OutOfMemory>
+        requires in_all { self.old.place + length self.old.bytes + length piece.now ≤ 2 ^ 62 }
+
+        ensures ok { OnOk result (self.new ≡ record self.old { message = []; bytes = self.old.bytes ++ piece.now }) }
+        ensures err { OnErr result (self.new ≡ record self.old { message = [] }) }
+    {
+        let unread = self.store.len() - self.from;
+        if unread == 0 || (KEPT <= self.from && unread <= self.from) {
+            give_up_front(&mut self.store, self.from);
+            self.from = 0;
+        }
+        self.start = self.from;
+        self.store.extend_from_slice(piece)?;
+        Ok(())
+    }
+
+    /// How many bytes are missing of the packet header or the packet that is being read; 0 exactly
+    /// where [`Frames::next`] wouldn't answer `None`. Takes no memory.
+    pub fn wants(&self) -> u32
+        ensures { result ≡ missing self.now.limit self.now.id self.now.bytes }
+    {
+        match front_of(&self.store[self.from..], self.id, self.limit) {
+            Front::Part(more) => more as u32,
+            Front::Whole(_) | Front::Wrong(_) => 0,
+        }
+    }
+
+    /// Reads the next message where it is whole, and says whether it was; [`Frames::message`] lends
+    /// it. Takes no memory. The faults are those of [`Frames::next`].
+    pub fn step(&mut self) -> Result<bool, FrameFault>
+        ensures { Steps self.old result self.new }
+    {
+        match front_of(&self.store[self.from..], self.id, self.limit) {
+            Front::Whole(size) => {
+                self.began = self.place;
+                self.start = self.from + 4;
+                self.from = self.start + size;
+                self.place += 4 + size as u64;
+                self.id = self.id.wrapping_add(1);
+                Ok(true)
+            }
+            Front::Part(_) => Ok(false),
+            Front::Wrong(fault) => Err(fault),
+        }
+    }
+
+    /// The message read last. Takes no memory.
+    #[inline]
+    pub fn message(&self) -> Message<'_>
+        ensures { Shows result self.now }
+    {
+        Message {
+            payload: &self.store[self.start..self.from],
+            place: self.began,
+            next_seq: self.id,
+        }
+    }
+
+    /// The next message, lent out of the bytes that were fed. `None` exactly where they are less than
+    /// a message. `BadSequence` and `TooLong` come exactly where the next packet has another id, or
+    /// is announced with more bytes than the limit; the same fault is answered from then on. Takes
+    /// no memory.
+    pub fn next(&mut self) -> Result<Option<Message<'_>>, FrameFault>
+        ensures* after { sem 𝓛 (Rests the_row self.entry (λ new. HandsOut self.old result new)) }
+    {
+        if self.step()? {
+            return Ok(Some(self.message()));
+        }
+        Ok(None)
+    }
+}
+
+#[cfg(test)]
+mod tests {
+    use super::*;
+    use std::process::Abort;
+    use std::test::Fail;
+
+    // The server's answer to a command, an OK packet, behind the command's own packet 0.
+    const OK: [u8; 11] = [7, 0, 0, 1, 0, 0, 0, 2, 0, 0, 0];
+
+    // A reader that awaits packet 1, as of an answer.
+    fn answer(alloc: Global, limit: u32) -> Frames
+        requires { limit < 16777215 }
+        ensures bytes { result.bytes ≡ [] }
+        ensures place { result.place ≡ 0 }
+    {
+        let mut frames = Frames::new(alloc, limit);
+        frames.start(1);
+        frames
+    }
+
+    fn assert_message(
+        rt: &impl Abort,
+        frames: &mut Frames,
+        payload: &[u8],
+        place: u64,
+        next_seq: u8,
+    ) -> Result<(), FrameFault>
+        ensures { IfOk result (λ _. frames.new.place + length frames.new.bytes ≡ frames.old.place + length frames.old.bytes) }
+    {
+        let next = frames.next()?;
+        assert!(rt; next.is_some(), "a message at {place}");
+        if let Some(message) = next {
+            assert_eq!(rt; message.payload, payload);
+            assert_eq!(rt; message.place, place);
+            assert_eq!(rt; message.next_seq, next_seq);
+        }
+        Ok(())
+    }
+
+    #[test]
+    fn a_message_comes_with_its_last_byte(rt: HostRuntime) -> Result<(), Fail> {
+        let mut frames = answer(rt.alloc(), 100);
+        let wanted = [4, 3, 2, 1, 7, 6, 5, 4, 3, 2, 1];
+        for fed in 0..OK.len() {
+            assert_eq!(rt; frames.wants(), wanted[fed], "{fed} bytes were fed");
+            assert!(rt; frames.next()?.is_none(), "{fed} bytes were fed");
+            frames.feed(&OK[fed..fed + 1])?;
+        }
+        assert_eq!(rt; frames.wants(), 0);
+        assert_message(&rt, &mut frames, &OK[4..], 0, 2)?;
+        assert_eq!(rt; frames.wants(), 4);
+        Ok(())
+    }
+
+    #[test]
+    fn a_message_may_be_cut_anywhere(rt: HostRuntime) -> Result<(), Fail> {
+        for cut in 1..OK.len() {
+            let mut frames = answer(rt.alloc(), 7);
+            frames.feed(&OK[..cut])?;
+            assert!(rt; frames.next()?.is_none(), "cut at {cut}");
+            frames.feed(&OK[cut..])?;
+            assert_message(&rt, &mut frames, &OK[4..], 0, 2)?;
+            assert!(rt; frames.next()?.is_none(), "cut at {cut}");
+        }
+        Ok(())
+    }
+
+    #[test]
+    fn messages_come_one_after_the_other(rt: HostRuntime) -> Result<(), Fail> {
+        let mut frames = answer(rt.alloc(), 100);
+        frames.feed(&[1, 0, 0, 1, 3, 0, 0, 0, 2, 5, 0])?;
+        assert_message(&rt, &mut frames, &[3], 0, 2)?;
+        assert_message(&rt, &mut frames, &[], 5, 3)?;
+        assert_eq!(rt; frames.wants(), 2);
+        Ok(())
+    }
+
+    // Passes over the whole messages, by `next` alone, and answers how many bytes of the stream they are.
+    fn pass_messages(frames: &mut Frames) -> Result<u64, FrameFault>
+        requires { frames.old.place + length frames.old.bytes ≤ 2 ^ 62 }
+        ensures passed { IfOk result (λ size. frames.new.place ≡ frames.old.place + size) }
+        ensures left { IfOk result (λ _. 0 < missing frames.new.limit frames.new.id frames.new.bytes) }
+    {
+        let mut size = 0;
+        'messages: for _ in 0..u64::MAX {
+            match frames.next()? {
+                Some(message) => size += 4 + message.payload.len() as u64,
+                None => return Ok(size),
+            }
+        }
+        Ok(size)
+    }
+
+    #[test]
+    fn a_loop_passes_over_what_is_whole(rt: HostRuntime) -> Result<(), Fail> {
+        let mut frames = answer(rt.alloc(), 100);
+        frames.feed(&[1, 0, 0, 1, 3, 0, 0, 0, 2, 5, 0, 0])?;
+        assert_eq!(rt; pass_messages(&mut frames)?, 9);
+        assert_eq!(rt; frames.wants(), 1);
+        Ok(())
+    }
+
+    #[test]
+    fn a_gap_in_the_ids_is_refused_from_then_on(rt: HostRuntime) -> Result<(), Fail> {
+        let mut frames = answer(rt.alloc(), 100);
+        frames.feed(&[7, 0, 0, 2, 0, 0, 0, 2, 0, 0, 0])?;
+        assert!(rt; matches!(frames.next(), Err(FrameFault::BadSequence(2, 1))));
+        assert!(rt; matches!(frames.next(), Err(FrameFault::BadSequence(2, 1))));
+        frames.feed(&OK)?;
+        assert!(rt; matches!(frames.next(), Err(FrameFault::BadSequence(2, 1))));
+        Ok(())
+    }
+
+    #[test]
+    fn a_message_past_the_limit_is_refused(rt: HostRuntime) -> Result<(), Fail> {
+        let mut frames = answer(rt.alloc(), 5);
+        frames.feed(&[6, 0, 0, 1])?;
+        assert!(rt; matches!(frames.next(), Err(FrameFault::TooLong(6))));
+        Ok(())
+    }
+}
