@@ -1,0 +1,74 @@
+-- How an escaped text grows byte by byte and run by run.
+use Rattle.std.proofs.Common.{◌≡◌, ◌==◌, subst, ℕ, suc, ◌+◌, ◌-◌, ◌*◌, ◌<◌, ◌≤◌, false, true, length-append, List, [], ◌∷◌, ◌++◌, length, get_or, take, drop, refl, sym, ap, ◌∙◌, take-add, arith, cond}
+use Rattle.std.specs.List.{flat_map, count_by}
+use Rattle.std.proofs.lemmas.List.{take_more, drop_more, take-append-drop, append-nil, drop-drop, get_or-drop, get_or-take, length-drop, length-take-le}
+use Rattle.std.proofs.lemmas.List.Sums.{count_by-le-length, sum_by-cons}
+use Rattle.std.proofs.lemmas.List.Concat.{flat_map-append}
+use Rattle.sql_literals.specs.Literal.{escaped_byte, is_special, letter_of, quoted}
+use Rattle.sql_literals.specs.Name.{name_byte, quoted_name}
+use Rattle.sql_literals.specs.Runs.{PlainRun}
+
+pub one_more : (f : ℕ → List ℕ) (xs : List ℕ) (i : ℕ) → i < length xs → flat_map f (take (i + 1) xs) ≡ flat_map f (take i xs) ++ f (get_or xs i 0)
+one_more f xs i h = ap (flat_map f) (take_more xs i 0 h) ∙ flat_map-append f (take i xs) (get_or xs i 0 ∷ []) ∙ ap (λ t. flat_map f (take i xs) ++ t) (append-nil _)
+
+pub one_less : (f : ℕ → List ℕ) (xs : List ℕ) (i : ℕ) → i < length xs → flat_map f (drop i xs) ≡ f (get_or xs i 0) ++ flat_map f (drop (i + 1) xs)
+one_less f xs i h = ap (flat_map f) (drop_more xs i 0 h)
+
+plain_byte : (b : ℕ) → is_special b ≡ false → escaped_byte b ≡ b ∷ []
+plain_byte b h = rw h
+
+plain_list : (xs : List ℕ) → ((k : ℕ) → k < length xs → is_special (get_or xs k 0) ≡ false) → flat_map escaped_byte xs ≡ xs
+plain_list [] h = refl
+plain_list (x ∷ xs) h =
+    let here : escaped_byte x ≡ x ∷ [] = plain_byte x (h 0 (omega arith)) in
+    let rest : flat_map escaped_byte xs ≡ xs = plain_list xs (λ k l. h (suc k) (omega arith)) in
+    ap (λ t. t ++ flat_map escaped_byte xs) here ∙ ap (λ t. x ∷ t) rest
+
+run_is_plain : (xs : List ℕ) (i j : ℕ) → PlainRun xs i j → flat_map escaped_byte (take (j - i) (drop i xs)) ≡ take (j - i) (drop i xs)
+run_is_plain xs i j r =
+    plain_list _ (λ k l.
+    let long : length (take (j - i) (drop i xs)) ≡ j - i = length-take-le (j - i) (drop i xs) (omega (arith, length-drop i xs, r.high)) in
+    let short : k < j - i = omega arith in
+    rw (get_or-take (j - i) (drop i xs) k 0 short, get_or-drop i xs k 0) (r.plain (i + k) (omega arith) (omega arith)))
+
+pub run_more : (xs : List ℕ) (i j : ℕ) → PlainRun xs i j → flat_map escaped_byte (take j xs) ≡ flat_map escaped_byte (take i xs) ++ take (j - i) (drop i xs)
+run_more xs i j r =
+    let sum : i + (j - i) ≡ j = omega (arith, r.low) in
+    let split : take j xs ≡ take i xs ++ take (j - i) (drop i xs) =
+    subst (λ (n : ℕ). take n xs ≡ take i xs ++ take (j - i) (drop i xs)) sum (take-add i (j - i) xs) in
+    ap (flat_map escaped_byte) split ∙ flat_map-append escaped_byte (take i xs) (take (j - i) (drop i xs)) ∙ ap (λ t. flat_map escaped_byte (take i xs) ++ t) (run_is_plain xs i j r)
+
+pub run_less : (xs : List ℕ) (i j : ℕ) → PlainRun xs i j → flat_map escaped_byte (drop i xs) ≡ take (j - i) (drop i xs) ++ flat_map escaped_byte (drop j xs)
+run_less xs i j r =
+    let sum : i + (j - i) ≡ j = omega (arith, r.low) in
+    let rest : drop (j - i) (drop i xs) ≡ drop j xs = drop-drop (j - i) i xs ∙ ap (λ n. drop n xs) sum in
+    let split : drop i xs ≡ take (j - i) (drop i xs) ++ drop j xs =
+    sym (take-append-drop (j - i) (drop i xs)) ∙ ap (λ t. take (j - i) (drop i xs) ++ t) rest in
+    ap (flat_map escaped_byte) split ∙ flat_map-append escaped_byte (take (j - i) (drop i xs)) (drop j xs) ∙ ap (λ t. t ++ flat_map escaped_byte (drop j xs)) (run_is_plain xs i j r)
+
+byte_length : (b : ℕ) → length (escaped_byte b) ≡ 1 + cond (is_special b) 1 0
+byte_length b = elim (is_special b) as (λ s. length (cond s (92 ∷ letter_of b ∷ []) (b ∷ [])) ≡ 1 + cond s 1 0) [ true ↦ refl | false ↦ refl ]
+
+escaped_length : (xs : List ℕ) → length (flat_map escaped_byte xs) ≡ length xs + count_by is_special xs
+escaped_length [] = refl
+escaped_length (x ∷ xs) =
+    let more : count_by is_special (x ∷ xs) ≡ cond (is_special x) 1 0 + count_by is_special xs = sum_by-cons (λ byte. cond (is_special byte) 1 0) x xs in
+    simp length-append (omega (arith, byte_length x, escaped_length xs))
+
+pub quoted_length : (xs : List ℕ) → length (quoted xs) ≡ length xs + count_by is_special xs + 2
+quoted_length xs = simp length-append (omega (arith, escaped_length xs))
+
+name_byte_length : (b : ℕ) → length (name_byte b) ≡ 1 + cond (b == 96) 1 0
+name_byte_length b = elim (b == 96) as (λ s. length (cond s (96 ∷ 96 ∷ []) (b ∷ [])) ≡ 1 + cond s 1 0) [ true ↦ refl | false ↦ refl ]
+
+doubled_length : (xs : List ℕ) → length (flat_map name_byte xs) ≡ length xs + count_by (λ byte. byte == 96) xs
+doubled_length [] = refl
+doubled_length (x ∷ xs) =
+    let more : count_by (λ byte. byte == 96) (x ∷ xs) ≡ cond (x == 96) 1 0 + count_by (λ byte. byte == 96) xs = sum_by-cons (λ byte. cond (byte == 96) 1 0) x xs in
+    simp length-append (omega (arith, name_byte_length x, doubled_length xs))
+
+pub quoted_name_length : (xs : List ℕ) → length (quoted_name xs) ≡ length xs + count_by (λ byte. byte == 96) xs + 2
+quoted_name_length xs = simp length-append (omega (arith, doubled_length xs))
+
+pub quoted_bound : (xs : List ℕ) → length (quoted xs) ≤ 2 * length xs + 2
+quoted_bound xs = omega (arith, quoted_length xs, count_by-le-length is_special xs)

@@ -1,0 +1,5 @@
+pub mod Counts
+pub mod Grammar
+pub mod Growth
+pub mod Marks
+pub mod Numbers

@@ -1,0 +1,5 @@
+pub mod Buffer
+pub mod Literal
+pub mod Name
+pub mod Number
+pub mod Runs

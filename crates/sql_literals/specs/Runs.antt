@@ -1,0 +1,13 @@
+-- Runs of bytes that stand for themselves.
+use Rattle.std.specs.Prelude.{ℕ, Bool, ◌≡◌, ◌<◌, ◌≤◌, false, List, length, map, slice_index, if◌then◌else◌}
+use Rattle.sql_literals.specs.Literal.{is_special}
+
+-- the bytes from the one place up to the other are there, and none of them is special
+pub record PlainRun (bytes : List ℕ) (from to : ℕ) : Type 0 where
+  pub low : from ≤ to
+  pub high : to ≤ length bytes
+  pub plain : (k : ℕ) → from ≤ k → k < to → is_special (slice_index bytes k) ≡ false
+
+-- 255 at each byte that passes the test, and 0 elsewhere
+abbrev pub marks : (ℕ → Bool) → List ℕ → List ℕ
+marks test bytes = map (λ byte. if test byte then 255 else 0) bytes

@@ -1,0 +1,146 @@
+// Literals of cells.
+ghost use Rattle.std.specs.Prelude.{◌≡◌, ◌↔◌, ◌+◌, ◌≤◌, ◌++◌, length, true, false, is_ok, IfSome, IfOk, IsOk, OnOk, OnErr, IsErrOf, option_copied};
+ghost use Rattle.sql_literals.specs.Literal.{literal, has_literal};
+
+use crate::buffer::Buffer;
+use crate::number::is_number;
+use crate::text::{text_into, text_length};
+use plain_data::OutOfMemory;
+use thiserror::Error;
+
+/// How a column's cells are written.
+#[derive(Clone, Copy, Debug, PartialEq, Eq)]
+pub enum CellKind {
+    /// As a number, with no quotes.
+    Number,
+    /// As text between single quotes.
+    Text,
+}
+
+/// A cell of a numeric column isn't a number.
+#[derive(Clone, Copy, Debug, PartialEq, Eq, Error)]
+#[error("not a number")]
+pub struct NotANumber;
+
+/// Why a cell's literal couldn't be appended.
+#[derive(Clone, Copy, Debug, PartialEq, Eq, Error)]
+pub enum CellFault {
+    /// The cell of a numeric column isn't a number.
+    #[error("not a number")]
+    NotANumber,
+    /// Memory ran out.
+    #[error("out of memory")]
+    OutOfMemory,
+}
+
+/// How many bytes the literal of a cell of at most 64 MiB has. It is refused exactly where
+/// [`cell_into`] finds that the cell isn't a number. Takes no memory.
+pub fn cell_length(kind: CellKind, cell: Option<&[u8]>) -> Result<usize, NotANumber>
+    requires { IfSome cell (λ bytes. length bytes.now ≤ 67108864) }
+    ensures ok { IfOk result (λ size. size ≡ length (literal kind (option_copied cell.entry))) }
+    ensures taken { is_ok result ≡ has_literal kind (option_copied cell.entry) }
+{
+    let Some(bytes) = cell else {
+        return Ok(4);
+    };
+    match kind {
+        CellKind::Number => {
+            if !is_number(bytes) {
+                return Err(NotANumber);
+            }
+            Ok(bytes.len())
+        }
+        CellKind::Text => Ok(text_length(bytes)),
+    }
+}
+
+// Appends bytes as they are.
+#[inline]
+fn bytes_into(bytes: &[u8], out: &mut Buffer) -> Result<(), OutOfMemory>
+    ensures ok { OnOk result (out.new.bytes ≡ out.old.bytes ++ bytes.now) }
+    ensures err { OnErr result (out.new ≡ out.old) }
+    ensures room { length bytes.now ≤ out.old.spare → IsOk result × (out.new.spare + length bytes.now ≡ out.old.spare) }
+{
+    out.reserve(bytes.len())?;
+    out.push(bytes);
+    Ok(())
+}
+
+/// Appends the literal of a cell: NULL, a number as it stands, or text between single quotes with
+/// its special bytes escaped. It is refused where the cell of a numeric column isn't a number,
+/// and for want of memory, and leaves the buffer as it was then. Where the room is there it takes
+/// no memory.
+#[inline]
+pub fn cell_into(kind: CellKind, cell: Option<&[u8]>, out: &mut Buffer) -> Result<(), CellFault>
+    ensures ok { OnOk result (out.new.bytes ≡ out.old.bytes ++ literal kind (option_copied cell.entry)) }
+    ensures not_a_number { IsErrOf result CellFault.NotANumber ↔ (has_literal kind (option_copied cell.entry) ≡ false) }
+    ensures out_of_memory { IsErrOf result CellFault.OutOfMemory → has_literal kind (option_copied cell.entry) ≡ true }
+    ensures err { OnErr result (out.new ≡ out.old) }
+    ensures room { has_literal kind (option_copied cell.entry) ≡ true → length (literal kind (option_copied cell.entry)) ≤ out.old.spare → IsOk result × (out.new.spare + length (literal kind (option_copied cell.entry)) ≡ out.old.spare) }
+{
+    let appended = match (kind, cell) {
+        (_, None) => bytes_into(b"NULL", out),
+        (CellKind::Number, Some(bytes)) => {
+            if !is_number(bytes) {
+                return Err(CellFault::NotANumber);
+            }
+            bytes_into(bytes, out)
+        }
+        (CellKind::Text, Some(bytes)) => text_into(bytes, out),
+    };
+    appended.map_err(|_| CellFault::OutOfMemory)
+}
+
+#[cfg(test)]
+mod tests {
+    use super::*;
+    use std::test::Fail;
+
+    #[test]
+    fn cells_are_written_as_literals(rt: HostRuntime) -> Result<(), Fail> {
+        let mut out = Buffer::new(rt.alloc());
+        for (kind, bytes, expected) in [
+            (
+                CellKind::Text,
+                b"\x27\x5c\x00\x0a\x0d\x1a\x22".as_slice(),
+                br#"'\'\\\0\n\r\Z\"'"#.as_slice(),
+            ),
+            (CellKind::Text, b"".as_slice(), b"''".as_slice()),
+            (
+                CellKind::Text,
+                b"\x00\xff".as_slice(),
+                b"'\\0\xff'".as_slice(),
+            ),
+            (CellKind::Number, b"-12.50".as_slice(), b"-12.50".as_slice()),
+        ] {
+            out.clear();
+            cell_into(kind, Some(bytes), &mut out)?;
+            assert_eq!(rt; out.as_slice(), expected);
+            assert!(rt; bytes.len() <= 67108864);
+            assert_eq!(rt; cell_length(kind, Some(bytes))?, expected.len());
+        }
+        Ok(())
+    }
+
+    #[test]
+    fn null_is_null_in_both_kinds(rt: HostRuntime) -> Result<(), Fail> {
+        let mut out = Buffer::new(rt.alloc());
+        for kind in [CellKind::Number, CellKind::Text] {
+            cell_into(kind, None, &mut out)?;
+            assert_eq!(rt; cell_length(kind, None)?, 4);
+        }
+        assert_eq!(rt; out.as_slice(), b"NULLNULL".as_slice());
+        Ok(())
+    }
+
+    #[test]
+    fn what_is_no_number_is_refused(rt: HostRuntime) -> Result<(), Fail> {
+        let mut out = Buffer::new(rt.alloc());
+        cell_into(CellKind::Number, Some(b"7"), &mut out)?;
+        let refused = cell_into(CellKind::Number, Some(b"1."), &mut out);
+        assert_eq!(rt; refused, Err(CellFault::NotANumber));
+        assert_eq!(rt; out.as_slice(), b"7".as_slice());
+        assert_eq!(rt; cell_length(CellKind::Number, Some(b"")), Err(NotANumber));
+        Ok(())
+    }
+}

@@ -1,0 +1,77 @@
+// Quoted names.
+ghost use Rattle.std.specs.Prelude.{◌≡◌, ◌+◌, ◌≤◌, ◌^◌, ◌++◌, length, IsOk, OnOk, OnErr, MatchOption};
+ghost use Rattle.std.specs.List.{flat_map};
+ghost use Rattle.sql_literals.specs.Name.{name_byte, quoted_name};
+
+use crate::buffer::Buffer;
+use plain_data::OutOfMemory;
+
+// How many bytes the quoted name has, if that many can be counted.
+#[tactic(auto, using(crate::proofs::Growth::quoted_name_length))]
+fn quoted_length(name: &[u8]) -> Option<usize>
+    ensures { MatchOption result (2 ^ 64 ≤ length (quoted_name name.now)) (λ n. n ≡ length (quoted_name name.now)) }
+{
+    let doubled = name.iter().filter(|byte| **byte == b'`').count();
+    name.len().checked_add(doubled)?.checked_add(2)
+}
+
+#[inline]
+fn push_name_byte(byte: u8, out: &mut Buffer)
+    requires { length (name_byte byte) ≤ out.old.spare }
+    ensures bytes { out.new.bytes ≡ out.old.bytes ++ name_byte byte }
+    ensures spare { out.new.spare + length (name_byte byte) ≡ out.old.spare }
+{
+    if byte == b'`' {
+        out.push_byte(b'`');
+    }
+    out.push_byte(byte);
+}
+
+fn push_name(name: &[u8], out: &mut Buffer)
+    requires { length (flat_map name_byte name.now) ≤ out.old.spare }
+    ensures bytes { out.new.bytes ≡ out.old.bytes ++ flat_map name_byte name.now }
+    ensures spare { out.new.spare + length (flat_map name_byte name.now) ≡ out.old.spare }
+{
+    for byte in name {
+        push_name_byte(*byte, out);
+    }
+}
+
+/// Appends the quoted name: between backquotes, each backquote doubled. It is refused only for
+/// want of memory, and leaves the buffer as it was then. Where the room is there it takes no memory.
+pub fn name_into(name: &[u8], out: &mut Buffer) -> Result<(), OutOfMemory>
+    ensures ok { OnOk result (out.new.bytes ≡ out.old.bytes ++ quoted_name name.now) }
+    ensures err { OnErr result (out.new ≡ out.old) }
+    ensures room { length (quoted_name name.now) ≤ out.old.spare → IsOk result × (out.new.spare + length (quoted_name name.now) ≡ out.old.spare) }
+{
+    let _spare = out.spare();
+    let Some(length) = quoted_length(name) else {
+        return Err(OutOfMemory);
+    };
+    out.reserve(length)?;
+    out.push_byte(b'`');
+    push_name(name, out);
+    out.push_byte(b'`');
+    Ok(())
+}
+
+#[cfg(test)]
+mod tests {
+    use super::*;
+    use std::test::Fail;
+
+    #[test]
+    fn backquotes_are_doubled(rt: HostRuntime) -> Result<(), Fail> {
+        let mut out = Buffer::new(rt.alloc());
+        for (name, expected) in [
+            (b"a`b".as_slice(), b"`a``b`".as_slice()),
+            (b"t".as_slice(), b"`t`".as_slice()),
+            (b"``".as_slice(), b"``````".as_slice()),
+        ] {
+            out.clear();
+            name_into(name, &mut out)?;
+            assert_eq!(rt; out.as_slice(), expected);
+        }
+        Ok(())
+    }
+}

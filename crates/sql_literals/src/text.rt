@@ -1,0 +1,114 @@
+// Text between single quotes.
+ghost use Rattle.std.specs.Prelude.{◌≡◌, ◌+◌, ◌≤◌, ◌^◌, ◌++◌, length, IsOk, OnOk, OnErr, MatchOption};
+ghost use Rattle.std.specs.List.{flat_map};
+ghost use Rattle.sql_literals.specs.Literal.{escaped_byte, quoted};
+
+use crate::buffer::Buffer;
+use crate::special::{is_special, letter_of, plain_until, special_count};
+use plain_data::OutOfMemory;
+
+// How many bytes the literal of a text of at most 64 MiB has.
+#[tactic(auto, using(crate::proofs::Growth::quoted_length))]
+pub(crate) fn text_length(bytes: &[u8]) -> usize
+    requires { length bytes.now ≤ 67108864 }
+    ensures { result ≡ length (quoted bytes.now) }
+{
+    bytes.len() + special_count(bytes) + 2
+}
+
+// The same of any text, if that many can be counted.
+#[tactic(auto, using(crate::proofs::Growth::quoted_length))]
+fn any_text_length(bytes: &[u8]) -> Option<usize>
+    ensures { MatchOption result (2 ^ 64 ≤ length (quoted bytes.now)) (λ n. n ≡ length (quoted bytes.now)) }
+{
+    bytes
+        .len()
+        .checked_add(special_count(bytes))?
+        .checked_add(2)
+}
+
+#[inline]
+fn push_escaped_byte(byte: u8, out: &mut Buffer)
+    requires { length (escaped_byte byte) ≤ out.old.spare }
+    ensures bytes { out.new.bytes ≡ out.old.bytes ++ escaped_byte byte }
+    ensures spare { out.new.spare + length (escaped_byte byte) ≡ out.old.spare }
+{
+    if is_special(byte) {
+        out.push_byte(b'\\');
+        out.push_byte(letter_of(byte));
+    } else {
+        out.push_byte(byte);
+    }
+}
+
+// Appends runs of plain bytes whole, and escapes the byte that ends each.
+fn push_escaped(bytes: &[u8], out: &mut Buffer)
+    requires { length (flat_map escaped_byte bytes.now) ≤ out.old.spare }
+    ensures bytes { out.new.bytes ≡ out.old.bytes ++ flat_map escaped_byte bytes.now }
+    ensures spare { out.new.spare + length (flat_map escaped_byte bytes.now) ≡ out.old.spare }
+{
+    let mut done = 0;
+    'runs: while done < bytes.len() {
+        let to = plain_until(bytes, done);
+        out.push(&bytes[done..to]);
+        if to == bytes.len() {
+            break;
+        }
+        push_escaped_byte(bytes[to], out);
+        done = to + 1;
+    }
+}
+
+// Makes room for the literal. Only where twice the bytes and the quotes don't fit are the
+// special bytes counted.
+#[inline]
+#[tactic(auto, using(crate::proofs::Growth::quoted_bound))]
+fn reserve_text(bytes: &[u8], out: &mut Buffer) -> Result<(), OutOfMemory>
+    ensures bytes { out.new.bytes ≡ out.old.bytes }
+    ensures ok { OnOk result (length (quoted bytes.now) ≤ out.new.spare) }
+    ensures err { OnErr result (out.new ≡ out.old) }
+    ensures room { length (quoted bytes.now) ≤ out.old.spare → IsOk result × (out.new ≡ out.old) }
+{
+    let spare = out.spare();
+    if spare >= 2 && bytes.len() <= (spare - 2) / 2 {
+        return Ok(());
+    }
+    let Some(length) = any_text_length(bytes) else {
+        return Err(OutOfMemory);
+    };
+    out.reserve(length)
+}
+
+// Appends a text's literal. Where the room is there it takes no memory.
+#[inline]
+pub(crate) fn text_into(bytes: &[u8], out: &mut Buffer) -> Result<(), OutOfMemory>
+    ensures ok { OnOk result (out.new.bytes ≡ out.old.bytes ++ quoted bytes.now) }
+    ensures err { OnErr result (out.new ≡ out.old) }
+    ensures room { length (quoted bytes.now) ≤ out.old.spare → IsOk result × (out.new.spare + length (quoted bytes.now) ≡ out.old.spare) }
+{
+    reserve_text(bytes, out)?;
+    out.push_byte(b'\'');
+    push_escaped(bytes, out);
+    out.push_byte(b'\'');
+    Ok(())
+}
+
+#[cfg(test)]
+mod tests {
+    use super::*;
+    use std::test::Fail;
+
+    // Special bytes at 0, 15, 16, 17, 31, 32 and at the end, 101.
+    #[test]
+    fn a_long_text_is_escaped_throughout(rt: HostRuntime) -> Result<(), Fail> {
+        let text =
+            b"'bcdefghijklmno\\\x00\"stuvwxyzabcde\n\rhijklmnopqrstuvwxyzABCDEFGHIJKLMNOPQRSTUVWXYZ0123456789abcdefghijklm\x1a";
+        let literal =
+            br#"'\'bcdefghijklmno\\\0\"stuvwxyzabcde\n\rhijklmnopqrstuvwxyzABCDEFGHIJKLMNOPQRSTUVWXYZ0123456789abcdefghijklm\Z'"#;
+        let mut out = Buffer::new(rt.alloc());
+        text_into(text, &mut out)?;
+        assert_eq!(rt; out.as_slice(), literal.as_slice());
+        assert_eq!(rt; text_length(text), literal.len());
+        Ok(())
+    }
+}
