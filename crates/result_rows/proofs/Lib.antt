@@ -1,0 +1,3 @@
+pub mod ResultSets
+pub mod Texts
+pub mod Walks

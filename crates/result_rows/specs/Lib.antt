@@ -1,0 +1,8 @@
+pub mod Definition
+pub mod Padded
+pub mod Reading
+pub mod Reply
+pub mod ResultSet
+pub mod Row
+pub mod RowView
+pub mod Turns

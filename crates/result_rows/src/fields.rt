@@ -1,0 +1,104 @@
+// The fields of the packets that a reply consists of.
+ghost use Rattle.std.specs.Prelude.{◌≡◌, option_map, option_copied};
+ghost use Rattle.result_rows.specs.Row.{front_of, string_of};
+ghost use Rattle.result_rows.specs.Definition.{behind_strings, is_fixed_part, is_definition, column_count};
+ghost use Rattle.result_rows.specs.Reply.{behind_number, is_ok_packet, is_eof_packet};
+
+use my_packets::lenenc_read;
+
+// So many bytes at the front, and the rest, where there are so many.
+#[inline]
+fn front_of(bytes: &[u8], size: u64) -> Option<(&[u8], &[u8])>
+    ensures { option_map (λ parts. (parts.0.now, parts.1.now)) result ≡ front_of size bytes.now }
+{
+    if (bytes.len() as u64) < size {
+        return None;
+    }
+    Some(bytes.split_at(size as usize))
+}
+
+// The length-encoded string that begins the bytes, and the rest.
+#[inline]
+pub(crate) fn string_of(bytes: &[u8]) -> Option<(&[u8], &[u8])>
+    ensures { option_map (λ parts. (parts.0.now, parts.1.now)) result ≡ string_of bytes.now }
+{
+    let (size, from) = lenenc_read(bytes)?;
+    front_of(&bytes[from..], size)
+}
+
+// What stands behind so many length-encoded strings.
+#[tactic(auto, using(crate::proofs::Walks::behind_strings_next))]
+fn behind_strings(bytes: &[u8], count: u32) -> Option<&[u8]>
+    ensures { option_copied result ≡ behind_strings count bytes.now }
+{
+    let mut rest = bytes;
+    for _ in 0..count {
+        let (_, later) = string_of(rest)?;
+        rest = later;
+    }
+    Some(rest)
+}
+
+// Whether the fields of a fixed length stand behind the strings.
+fn is_fixed_part(bytes: Option<&[u8]>) -> bool
+    ensures { result ≡ is_fixed_part (option_copied bytes.entry) }
+{
+    match bytes {
+        Some([0x0c, rest @ ..]) => rest.len() == 12,
+        _ => false,
+    }
+}
+
+// Whether this is a column definition.
+pub(crate) fn is_definition(payload: &[u8]) -> bool
+    ensures { result ≡ is_definition payload.now }
+{
+    is_fixed_part(behind_strings(payload, 6))
+}
+
+// The number of columns that begins a result set.
+pub(crate) fn column_count(payload: &[u8]) -> Option<u32>
+    ensures { result ≡ column_count payload.now }
+{
+    let (count, size) = lenenc_read(payload)?;
+    if size == payload.len() && 1 <= count && count <= 65535 {
+        return Some(count as u32);
+    }
+    None
+}
+
+// What stands behind the length-encoded integer that begins the bytes.
+fn behind_number(bytes: &[u8]) -> Option<&[u8]>
+    ensures { option_copied result ≡ behind_number bytes.now }
+{
+    let (_, size) = lenenc_read(bytes)?;
+    Some(&bytes[size..])
+}
+
+/// Whether this is an OK packet: 0x00, affected rows and last insert id length-encoded, two bytes of
+/// status, two of warnings, then anything. Takes no memory. (MySQL source documentation, `OK_Packet`.)
+pub fn is_ok_packet(payload: &[u8]) -> bool
+    ensures { result ≡ is_ok_packet payload.now }
+{
+    let [0x00, numbers @ ..] = payload else {
+        return false;
+    };
+    let Some(insert_id) = behind_number(numbers) else {
+        return false;
+    };
+    match behind_number(insert_id) {
+        Some(status) => 4 <= status.len(),
+        None => false,
+    }
+}
+
+// Whether this is an EOF packet: 0xfe, two bytes of warnings, two of status, and fewer than nine bytes
+// in all.
+pub(crate) fn is_eof_packet(payload: &[u8]) -> bool
+    ensures { result ≡ is_eof_packet payload.now }
+{
+    match payload {
+        [0xfe, rest @ ..] => 4 <= rest.len() && rest.len() < 8,
+        _ => false,
+    }
+}

@@ -1,0 +1,193 @@
+// Rows, and their cells one after the other.
+ghost use Rattle.std.specs.Prelude.{◌≡◌, ◌<◌, length, is_some, slice_index_or, MatchOption, Some, None, option_map, option_copied};
+ghost use Rattle.result_rows.specs.Row.{cell_of, cells_of};
+
+use crate::fields::string_of;
+use std::marker::Model;
+
+/// A row of a text result set, in the bytes of its message. (MySQL source documentation,
+/// `ProtocolText::ResultsetRow`.)
+#[derive(Drop)]
+pub struct Row<'a> {
+    payload: &'a [u8],
+    columns: u32,
+    place: u64,
+}
+
+impl<'a> Model for Row<'a> {
+    ghost use Rattle.std.specs.Prelude.{IsSome};
+    ghost use Rattle.result_rows.specs.Row.{cells_of, cells_or_none};
+    ghost use Rattle.result_rows.specs.RowView.{RowView};
+
+    ghost Value = { RowView };
+
+    ghost view = { λ row. record { cells = cells_or_none row.columns row.payload.now; place = row.place } };
+
+    ghost invariant = { λ row. IsSome (cells_of row.columns row.payload.now) };
+}
+
+impl<'a> Row<'a> {
+    // Reads a row of so many columns, of the message that began at this place.
+    #[inline]
+    pub(crate) fn read(columns: u32, payload: &'a [u8], place: u64) -> Option<Row<'a>>
+        ensures { MatchOption result (cells_of columns payload.now ≡ None) (λ row. (cells_of columns payload.now ≡ Some row.cells) × (row.place ≡ place)) }
+    {
+        if !are_cells(columns, payload) {
+            return None;
+        }
+        Some(Row {
+            payload,
+            columns,
+            place,
+        })
+    }
+
+    /// The number of its cells. Takes no memory.
+    #[inline]
+    #[tactic(auto, using(crate::proofs::Walks::length_cells))]
+    pub fn columns(&self) -> u32
+        ensures { result ≡ length self.now.cells }
+    {
+        self.columns
+    }
+
+    /// The number of stream bytes before the packet of its message. Takes no memory.
+    #[inline]
+    pub fn place(&self) -> u64
+        ensures { result ≡ self.now.place }
+    {
+        self.place
+    }
+
+    /// The cell of this number, counted from 0; `None` where it is NULL. It is found by a walk over
+    /// those before it. Takes no memory.
+    pub fn cell(&self, i: u32) -> Option<&'a [u8]>
+        requires there { i < length self.now.cells }
+
+        ensures { option_copied result ≡ slice_index_or self.now.cells i None }
+    {
+        self.cells().nth(i as usize).flatten()
+    }
+
+    /// The cells in order, each `None` where it is NULL. Takes no memory.
+    #[inline]
+    pub fn cells(&self) -> Cells<'a>
+        ensures { result ≡ self.now.cells }
+    {
+        Cells {
+            rest: self.payload,
+            left: self.columns,
+        }
+    }
+}
+
+/// The cells of a row that are left, lent out of the bytes of its message.
+#[derive(Drop)]
+pub struct Cells<'a> {
+    rest: &'a [u8],
+    left: u32,
+}
+
+impl<'a> Model for Cells<'a> {
+    ghost use Rattle.std.specs.Prelude.{List, IsSome};
+    ghost use Rattle.result_rows.specs.Row.{Cell, cells_of, cells_or_none};
+
+    ghost Value = { List Cell };
+
+    ghost view = { λ cells. cells_or_none cells.left cells.rest.now };
+
+    ghost invariant = { λ cells. IsSome (cells_of cells.left cells.rest.now) };
+}
+
+impl<'a> Iterator for Cells<'a> {
+    type Item = Option<&'a [u8]>;
+
+    ghost use Rattle.std.specs.Prelude.{option_map};
+    ghost use Rattle.std.specs.Iterator.{YieldsFirstBy, item_count};
+
+    ghost next_gives = { YieldsFirstBy (option_map (λ bytes. bytes.now)) (λ cells. cells) };
+
+    ghost remaining = { item_count (λ cells. cells) };
+
+    #[inline]
+    #[tactic(auto, using(crate::proofs::Walks::split_cells))]
+    fn next(&mut self) -> Option<Option<&'a [u8]>> {
+        if self.left == 0 {
+            return None;
+        }
+        let (cell, rest) = cell_of(self.rest)?;
+        self.rest = rest;
+        self.left -= 1;
+        Some(cell)
+    }
+}
+
+// The cell that begins the bytes, and the rest.
+#[inline]
+fn cell_of(bytes: &[u8]) -> Option<(Option<&[u8]>, &[u8])>
+    ensures { option_map (λ parts. (option_copied parts.0, parts.1.now)) result ≡ cell_of bytes.now }
+{
+    if let [0xfb, rest @ ..] = bytes {
+        return Some((None, rest));
+    }
+    let (cell, rest) = string_of(bytes)?;
+    Some((Some(cell), rest))
+}
+
+// Whether the bytes are so many cells and nothing behind them.
+#[inline]
+#[tactic(auto, using(crate::proofs::Walks::cells_of_next, crate::proofs::Walks::are_cells_next))]
+fn are_cells(columns: u32, payload: &[u8]) -> bool
+    ensures { result ≡ is_some (cells_of columns payload.now) }
+{
+    let mut rest = payload;
+    for _ in 0..columns {
+        let Some((_, later)) = cell_of(rest) else {
+            return false;
+        };
+        rest = later;
+    }
+    rest.is_empty()
+}
+
+#[cfg(test)]
+mod tests {
+    use super::*;
+
+    #[test]
+    fn reads_exactly_so_many_cells(rt: HostRuntime) {
+        let cases: [(u32, &[u8], Option<&[Option<&[u8]>]>); 6] = [
+            (2, b"\x011\x01a", Some(&[Some(b"1"), Some(b"a")])),
+            (2, b"\x012\xfb", Some(&[Some(b"2"), None])),
+            (2, b"\x00\xfc\x01\x00a", Some(&[Some(b""), Some(b"a")])),
+            (2, b"\x011\x01a\x00", None),
+            (2, b"\x011", None),
+            (2, b"\x011\x02a", None),
+        ];
+        for (columns, payload, want) in cases {
+            match (Row::read(columns, payload, 7), want) {
+                (Some(row), Some(want)) => {
+                    assert_eq!(rt; row.place(), 7);
+                    assert_eq!(rt; row.columns() as usize, want.len());
+                    for (cell, want) in row.cells().zip(want) {
+                        assert_eq!(rt; cell, *want, "of {payload:?}");
+                    }
+                }
+                (found, want) => assert_eq!(rt; found.is_some(), want.is_some(), "of {payload:?}"),
+            }
+        }
+    }
+
+    #[test]
+    fn finds_a_cell_of_300_bytes(rt: HostRuntime) {
+        let mut payload = [b'x'; 305];
+        payload[0] = 0x01;
+        payload[2] = 0xfc;
+        payload[3] = 0x2c;
+        payload[4] = 0x01;
+        let row = Row::read(2, &payload, 0).unwrap();
+        assert_eq!(rt; row.columns(), 2);
+        assert_eq!(rt; row.cell(0), Some(&b"x"[..]));
+        assert_eq!(rt; row.cell(1), Some(&payload[5..]));
+    }
+}
