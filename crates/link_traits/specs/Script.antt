@@ -1,0 +1,64 @@
+-- The calls that are to fail, and the counts of those that did.
+use Rattle.std.specs.Prelude.{◌≡◌, ℕ, Bool, false, List, Result, OnOk, OnErr, ◌+◌, ◌-◌, ◌*◌, ◌^◌, ◌==◌, min, if◌then◌else◌}
+use Rattle.std.specs.List.{list_any}
+
+-- the numbers of the calls that are to fail and the number of the next call; how many failures were
+-- asked for or could not be helped, and how many were for want of memory
+pub record Counts : Type 0 where
+  pub failing : List ℕ
+  pub call : ℕ
+  pub listed : ℕ
+  pub wanting : ℕ
+
+-- a script at its start
+abbrev pub script_of : List ℕ → ℕ → Counts
+script_of failing call = record { failing = failing; call = call; listed = 0; wanting = 0 }
+
+-- a count, which stops at its last value
+abbrev pub capped : ℕ → ℕ
+capped count = min count (2 ^ 64 - 1)
+
+-- all failures
+abbrev pub faults_of : Counts → ℕ
+faults_of counts = capped (counts.listed + counts.wanting)
+
+-- the number by which a call of an object is listed
+abbrev pub number_of : ℕ → ℕ → ℕ
+number_of object call = capped (object * 1000000 + call)
+
+-- whether the next call is to fail
+abbrev pub is_listed : Counts → Bool
+is_listed counts = list_any (λ number. number == counts.call) counts.failing
+
+-- a failure that was asked for, or that could not be helped
+abbrev pub failed : Counts → Counts
+failed counts = record counts { listed = capped (counts.listed + 1) }
+
+-- a failure for want of memory
+abbrev pub starved : Counts → Counts
+starved counts = record counts { wanting = capped (counts.wanting + 1) }
+
+-- the next call was made, and counted as a failure if it is listed
+abbrev pub called : Counts → Counts
+called counts = record counts {
+  call = capped (counts.call + 1);
+  listed = if is_listed counts then capped (counts.listed + 1) else counts.listed;
+}
+
+-- the failures of another object are added
+abbrev pub added : Counts → Counts → Counts
+added counts others = record counts {
+  listed = capped (counts.listed + others.listed);
+  wanting = capped (counts.wanting + others.wanting);
+}
+
+-- what a failed call is counted as: it was listed, it could not be helped, or memory was wanting
+abbrev pub after_failure : Counts → Bool → Counts
+after_failure counts hopeless = if is_listed counts then called counts else (if hopeless then failed (called counts) else starved (called counts))
+
+-- a call is counted; it fails where it is listed or can't be helped, and else only for want of memory
+pub record Counted {T E : Type 0} (old : Counts) (hopeless : Bool) (result : Result T E) (new : Counts) : Type 0 where
+  pub ok : OnOk result (new ≡ called old)
+  pub unlisted : OnOk result (is_listed old ≡ false)
+  pub hopeful : OnOk result (hopeless ≡ false)
+  pub err : OnErr result (new ≡ after_failure old hopeless)

@@ -1,0 +1,91 @@
+// A sink in memory.
+ghost use Rattle.std.specs.Prelude.{◌≡◌, ◌++◌, [], false, is_ok, if◌then◌else◌};
+ghost use Rattle.link_traits.specs.Moments.{SinkState};
+ghost use Rattle.link_traits.specs.Script.{script_of, faults_of, Counted};
+
+use crate::script::Script;
+use crate::sink::{Sink, SinkFailed};
+use sql_literals::{NumberList, OutOfMemory};
+use std::alloc::Global;
+use std::marker::Model;
+
+/// A sink in memory, which tells what was written.
+#[derive(Drop)]
+pub struct MemorySink {
+    written: Vec<u8>,
+    script: Script,
+}
+
+impl Model for MemorySink {
+    ghost use Rattle.link_traits.specs.Moments.{SinkState};
+
+    ghost Value = { SinkState };
+
+    ghost view = { λ s. record { written = s.written.items; script = s.script } };
+}
+
+impl MemorySink {
+    /// An empty sink. `faults` numbers the calls that are to fail, from 0. A call that is to fail, or
+    /// that lacks memory, writes nothing and is counted. Takes no memory.
+    pub fn new(alloc: Global, faults: NumberList) -> MemorySink
+        ensures { result ≡ record { written = []; script = script_of faults 0 } }
+    {
+        MemorySink {
+            written: Vec::new(alloc),
+            script: Script::new(faults),
+        }
+    }
+
+    /// All that was written. Takes no memory.
+    pub fn bytes(&self) -> &[u8]
+        ensures { result.now ≡ self.now.written }
+    {
+        self.written.as_slice()
+    }
+}
+
+impl Sink for MemorySink {
+    ghost tells = { λ _. Unit {0} };
+
+    ghost written = { λ sink. sink.written };
+
+    ghost faults = { λ sink. faults_of sink.script };
+
+    fn write(&mut self, bytes: &[u8]) -> Result<(), SinkFailed>
+        ensures written { self.new.written ≡ (if is_ok result then self.old.written ++ bytes.now else self.old.written) }
+        ensures counts { Counted self.old.script false result self.new.script }
+    {
+        if self.script.fails() {
+            return Err(SinkFailed);
+        }
+        if self.written.extend_from_slice(bytes).is_err() {
+            self.script.starve();
+            return Err(SinkFailed);
+        }
+        Ok(())
+    }
+}
+
+#[cfg(test)]
+mod tests {
+    use super::*;
+    use std::test::Fail;
+
+    // Whether the bytes are written.
+    fn writes<S: Sink>(sink: &mut S, bytes: &[u8]) -> bool {
+        sink.write(bytes).is_ok()
+    }
+
+    #[test]
+    fn a_listed_call_writes_nothing(rt: HostRuntime) -> Result<(), Fail> {
+        let mut faults = NumberList::new(rt.alloc());
+        faults.push(1)?;
+        let mut sink = MemorySink::new(rt.alloc(), faults);
+        assert!(rt; writes(&mut sink, b"one "));
+        assert!(rt; !writes(&mut sink, b"two "));
+        assert!(rt; writes(&mut sink, b"three"));
+        assert_eq!(rt; sink.bytes(), b"one three".as_slice());
+        assert_eq!(rt; sink.script.counts(), (1, 0));
+        Ok(())
+    }
+}

@@ -1,0 +1,207 @@
+// A link over a TCP connection.
+ghost use Rattle.std.specs.Prelude.{◌≡◌, ◌<◌, ◌≤◌, ◌+◌, ◌-◌, ◌^◌, [], length, take, true, false, min, IfOk, OnOk, OnErr};
+ghost use Rattle.std.specs.Io.KnownBytes.{Appends, Consumes};
+ghost use Rattle.link_traits.specs.Cause.{HasCause};
+ghost use Rattle.link_traits.specs.Link.{begun, IsWithin};
+
+use crate::link::{Link, LinkFailed};
+use crate::read_buffer::{READ_SIZE, ReadBuffer};
+use crate::transfer::{read_some, write_front};
+use sql_literals::OutOfMemory;
+use std::alloc::Global;
+use std::io::{Read, Write};
+use std::marker::Model;
+use std::net::TcpStream;
+
+/// A link over a TCP connection. It receives 64 KiB at a time, so that callers may ask for few bytes.
+/// It tells nothing of what a server says, but over a connection whose bytes are known it sends and
+/// receives just those, in their order.
+#[derive(Drop)]
+pub struct TcpLink<S: Read + Write = TcpStream> {
+    stream: S,
+    received: ReadBuffer,
+    has_failed: bool,
+    faults: u64,
+}
+
+impl<S: Read + Write> Model for TcpLink<S> {
+    ghost use Rattle.std.specs.Io.KnownBytes.{prepend_known};
+    ghost use Rattle.link_traits.specs.Status.{LinkStatus};
+
+    ghost Value = { LinkStatus };
+
+    ghost view = { λ l. record {
+      failed = l.has_failed;
+      faults = l.faults;
+      written = S.contents l.stream;
+      unread = prepend_known l.received (S.remaining l.stream);
+    } };
+}
+
+impl<S: Read + Write> TcpLink<S> {
+    /// How often the link has failed. Takes no memory.
+    pub(crate) fn faults(&self) -> u64
+        ensures { result ≡ self.now.faults }
+    {
+        self.faults
+    }
+
+    // Counts a failure, after which every call fails.
+    fn fail(&mut self) -> LinkFailed
+        ensures failed { self.new ≡ record self.old { failed = true; faults = min (self.old.faults + 1) (2 ^ 64 - 1) } }
+        ensures later { self.old.faults ≤ self.new.faults }
+    {
+        self.has_failed = true;
+        self.faults = self.faults.saturating_add(1);
+        LinkFailed
+    }
+}
+
+impl<S: Read + Write + Drop> TcpLink<S> {
+    /// A link over this connection. It is refused only for want of memory.
+    pub(crate) fn new(alloc: Global, stream: S) -> Result<TcpLink<S>, OutOfMemory>
+        ensures { IfOk result (λ made. made ≡ record { failed = false; faults = 0; written = S.contents stream; unread = S.remaining stream }) }
+    {
+        Ok(TcpLink {
+            stream,
+            received: ReadBuffer::new(alloc)?,
+            has_failed: false,
+            faults: 0,
+        })
+    }
+}
+
+impl<S: Read + Write + Drop> Link for TcpLink<S> {
+    ghost tells = { λ _. ⊥ };
+
+    ghost told = { λ _. begun [] };
+
+    ghost faults = { λ link. link.faults };
+
+    fn send(&mut self, message: &[u8]) -> Result<(), LinkFailed>
+        ensures cause { HasCause self.old.faults self.new.faults result }
+        ensures alive { OnOk result ((self.old.failed ≡ false) × (self.new.failed ≡ false)) }
+        ensures failed { OnErr result (self.new.failed ≡ true) }
+        ensures written { OnOk result (Appends self.old.written self.new.written message.now) }
+    {
+        if self.has_failed || write_front(&mut self.stream, message) < message.len() {
+            return Err(self.fail());
+        }
+        Ok(())
+    }
+
+    fn recv(&mut self, buffer: &mut [u8]) -> Result<usize, LinkFailed>
+        requires room { 0 < length buffer.old }
+        ensures within { IfOk result (λ count. IsWithin buffer.old count) }
+        ensures cause { HasCause self.old.faults self.new.faults result }
+        ensures alive { OnOk result ((self.old.failed ≡ false) × (self.new.failed ≡ false)) }
+        ensures failed { OnErr result (self.new.failed ≡ true) }
+        ensures received { IfOk result (λ count. Consumes self.old.unread self.new.unread (take count buffer.new)) }
+    {
+        if self.has_failed {
+            return Err(self.fail());
+        }
+        if self.received.is_empty() {
+            if buffer.len() >= READ_SIZE {
+                return match read_some(&mut self.stream, buffer) {
+                    Ok(count) => Ok(count),
+                    Err(_) => Err(self.fail()),
+                };
+            }
+            if self.received.refill(&mut self.stream).is_err() {
+                return Err(self.fail());
+            }
+        }
+        Ok(self.received.take_front(buffer))
+    }
+}
+
+#[cfg(test)]
+mod tests {
+    use super::*;
+    use std::io;
+    use std::io::ErrorKind;
+    use std::test::Fail;
+
+    // A connection that interrupts every other call, gives and takes two bytes a call, and ends
+    // after some calls.
+    #[derive(Drop)]
+    struct Wire {
+        calls_left: u64,
+        sent: Vec<u8>,
+    }
+
+    impl Wire {
+        // `None` at the end, and else whether this call is served.
+        fn is_served(&mut self) -> Option<bool> {
+            self.calls_left = self.calls_left.checked_sub(1)?;
+            Some(self.calls_left.is_multiple_of(2))
+        }
+    }
+
+    impl Read for Wire {
+        fn read(&mut self, buf: &mut [u8]) -> io::Result<usize> {
+            match self.is_served() {
+                None => Ok(0),
+                Some(false) => Err(io::Error::from(ErrorKind::Interrupted)),
+                Some(true) => {
+                    let count = buf.len().min(2);
+                    buf[..count].fill(b'r');
+                    Ok(count)
+                }
+            }
+        }
+    }
+
+    impl Write for Wire {
+        fn write(&mut self, buf: &[u8]) -> io::Result<usize> {
+            match self.is_served() {
+                None => Ok(0),
+                Some(false) => Err(io::Error::from(ErrorKind::Interrupted)),
+                Some(true) => {
+                    let count = buf.len().min(2);
+                    self.sent.extend_from_slice(&buf[..count])?;
+                    Ok(count)
+                }
+            }
+        }
+
+        fn flush(&mut self) -> io::Result<()> {
+            Ok(())
+        }
+    }
+
+    fn link(alloc: Global, calls_left: u64) -> Result<TcpLink<Wire>, OutOfMemory> {
+        let sent = Vec::new(alloc);
+        TcpLink::new(alloc, Wire { calls_left, sent })
+    }
+
+    #[test]
+    fn tries_again_what_was_interrupted(rt: HostRuntime) -> Result<(), Fail> {
+        let mut link = link(rt.alloc(), 8)?;
+        link.send(b"hello")?;
+        assert_eq!(rt; link.stream.sent.as_slice(), b"hello".as_slice());
+        let mut buffer = [0; 4];
+        assert_eq!(rt; link.recv(&mut buffer)?, 2);
+        assert_eq!(rt; buffer, *b"rr\0\0");
+        assert_eq!(rt; link.faults(), 0);
+        Ok(())
+    }
+
+    #[test]
+    fn fails_from_the_first_failure_on(rt: HostRuntime) -> Result<(), Fail> {
+        let mut link = link(rt.alloc(), 4)?;
+        let mut byte = [0; 1];
+        assert_eq!(rt; link.recv(&mut byte)?, 1);
+        assert_eq!(rt; link.send(b"long"), Err(LinkFailed));
+        assert_eq!(rt; link.stream.sent.as_slice(), b"lo".as_slice());
+        assert_eq!(rt;
+            link.recv(&mut byte),
+            Err(LinkFailed),
+            "though a byte waits"
+        );
+        assert_eq!(rt; link.send(b""), Err(LinkFailed));
+        assert_eq!(rt; link.faults(), 3);
+        Ok(())
+    }
+}
