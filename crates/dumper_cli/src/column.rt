@@ -1,0 +1,275 @@
+// Columns.
+ghost use Rattle.std.specs.Prelude.{◌≡◌, true, false, IfOk, MatchOption, bytes_eq, option_copied};
+ghost use Rattle.std.specs.List.{list_any};
+ghost use Rattle.dumper_cli.specs.Columns.{kind_of, holds, is_generated, is_utf8, described, column_of};
+
+use result_rows::Row;
+use sql_literals::{CellKind, Name, OutOfMemory, Plain, PlainList};
+use std::alloc::Global;
+
+// Types whose cells are written as numbers.
+const NUMBER_TYPES: [&str; 7] = [
+    "tinyint",
+    "smallint",
+    "mediumint",
+    "int",
+    "bigint",
+    "decimal",
+    "year",
+];
+
+// Types whose cells are written as text.
+const TEXT_TYPES: [&str; 12] = [
+    "char",
+    "varchar",
+    "tinytext",
+    "text",
+    "mediumtext",
+    "longtext",
+    "enum",
+    "set",
+    "date",
+    "time",
+    "datetime",
+    "timestamp",
+];
+
+/// A column of a table: its name, and how its cells are spelled.
+#[derive(Debug, Drop)]
+pub struct Column {
+    pub name: Name,
+    pub kind: CellKind,
+}
+
+impl Plain for Column {
+    fn duplicate(&self) -> Result<Column, OutOfMemory> {
+        Ok(Column {
+            name: self.name.copy()?,
+            kind: self.kind,
+        })
+    }
+}
+
+/// Columns in their table's order.
+pub type ColumnList = PlainList<Column>;
+
+fn is_among(name: &[u8], names: &[&str]) -> bool
+    ensures { result ≡ list_any (λ other. bytes_eq name.now other.now) names.now }
+{
+    names.iter().any(|other| name == other.as_bytes())
+}
+
+// How the cells of a type are written, where they can be.
+fn kind_of(data_type: &[u8]) -> Option<CellKind>
+    ensures { result ≡ kind_of data_type.now }
+{
+    if is_among(data_type, &NUMBER_TYPES) {
+        return Some(CellKind::Number);
+    }
+    if is_among(data_type, &TEXT_TYPES) {
+        return Some(CellKind::Text);
+    }
+    None
+}
+
+// Whether the bytes hold these bytes at some place.
+fn holds(needle: &[u8], bytes: &[u8]) -> bool
+    ensures { result ≡ holds needle.now bytes.now }
+{
+    let mut rest = bytes;
+    'places: while let [_, later @ ..] = rest {
+        if rest.starts_with(needle) {
+            return true;
+        }
+        rest = later;
+    }
+    needle.is_empty()
+}
+
+fn is_generated(extra: &[u8]) -> bool
+    ensures { result ≡ is_generated extra.now }
+{
+    holds(b"VIRTUAL GENERATED", extra) || holds(b"STORED GENERATED", extra)
+}
+
+// The text that the bytes spell, where they are UTF-8.
+#[tactic(auto, using(crate::proofs::Utf8::valid_whole))]
+fn text_of(bytes: &[u8]) -> Option<&str>
+    ensures { MatchOption result (is_utf8 bytes.now ≡ false) (λ text. (is_utf8 bytes.now ≡ true) × (text.now ≡ bytes.now)) }
+{
+    match str::from_utf8(bytes) {
+        Ok(text) => Some(text),
+        Err(_) => None,
+    }
+}
+
+// The column of these four cells.
+fn described(
+    alloc: Global,
+    name: Option<&[u8]>,
+    data_type: Option<&[u8]>,
+    column_type: Option<&[u8]>,
+    extra: Option<&[u8]>,
+) -> Result<Option<Column>, OutOfMemory>
+    ensures { IfOk result (λ found. found ≡ described (option_copied name.entry) (option_copied data_type.entry) (option_copied column_type.entry) (option_copied extra.entry)) }
+{
+    let (Some(name), Some(data_type), Some(_), Some(extra)) = (name, data_type, column_type, extra)
+    else {
+        return Ok(None);
+    };
+    let Some(name) = text_of(name) else {
+        return Ok(None);
+    };
+    if is_generated(extra) {
+        return Ok(None);
+    }
+    let Some(kind) = kind_of(data_type) else {
+        return Ok(None);
+    };
+    let name = Name::of(alloc, name)?;
+    Ok(Some(Column { name, kind }))
+}
+
+/// The column that a row of COLUMN_NAME, DATA_TYPE, COLUMN_TYPE and EXTRA describes. `None` exactly where
+/// it can't be dumped: one of these cells is missing or NULL, the name isn't UTF-8, the column is
+/// generated, or its type is none of those that are written as numbers or text. (MySQL 8.0 Reference
+/// Manual, 28.3.8.)
+#[tactic(auto, using(crate::proofs::Rows::column_of_cells, crate::proofs::Rows::too_short))]
+pub fn column_of(alloc: Global, row: &Row<'_>) -> Result<Option<Column>, OutOfMemory>
+    ensures { IfOk result (λ found. found ≡ column_of row.now.cells) }
+{
+    if row.columns() < 4 {
+        return Ok(None);
+    }
+    described(alloc, row.cell(0), row.cell(1), row.cell(2), row.cell(3))
+}
+
+#[cfg(test)]
+mod tests {
+    use super::*;
+    use my_packets::Message;
+    use result_rows::{Reply, RowReader, Turn};
+    use std::test::Fail;
+
+    const DEFINITION: &[u8] =
+        b"\x03def\x00\x00\x00\x01c\x00\x0c\x3f\x00\x0b\x00\x00\x00\x03\x03\x00\x00\x00\x00";
+
+    const EOF: &[u8] = b"\xfe\x00\x00\x02\x00";
+
+    fn message(payload: &[u8]) -> Message<'_>
+        ensures { result.payload.now ≡ payload.now }
+    {
+        Message {
+            payload,
+            place: 0,
+            next_seq: 0,
+        }
+    }
+
+    // The row of four cells that comes in this message.
+    fn row_of(payload: &[u8]) -> Option<Row<'_>> {
+        let mut reader = RowReader::new();
+        let Ok(Reply::Columns(4)) = reader.first(b"\x04") else {
+            return None;
+        };
+        for payload in [DEFINITION, DEFINITION, DEFINITION, DEFINITION, EOF] {
+            let Ok(Turn::Definition) = reader.more(message(payload)) else {
+                return None;
+            };
+        }
+        match reader.more(message(payload)) {
+            Ok(Turn::Row(row)) => Some(row),
+            _ => None,
+        }
+    }
+
+    #[test]
+    fn types_are_numbers_texts_or_neither(rt: HostRuntime) {
+        let cases: [(Option<CellKind>, &[&str]); 3] = [
+            (
+                Some(CellKind::Number),
+                &[
+                    "tinyint",
+                    "smallint",
+                    "mediumint",
+                    "int",
+                    "bigint",
+                    "decimal",
+                    "year",
+                ],
+            ),
+            (
+                Some(CellKind::Text),
+                &[
+                    "char",
+                    "varchar",
+                    "tinytext",
+                    "text",
+                    "mediumtext",
+                    "longtext",
+                    "enum",
+                    "set",
+                    "date",
+                    "time",
+                    "datetime",
+                    "timestamp",
+                ],
+            ),
+            (
+                None,
+                &[
+                    "float",
+                    "double",
+                    "json",
+                    "blob",
+                    "bit",
+                    "binary",
+                    "varbinary",
+                    "point",
+                    "",
+                ],
+            ),
+        ];
+        for (want, names) in cases {
+            for name in names {
+                assert_eq!(rt; kind_of(name.as_bytes()), want, "of {name}");
+            }
+        }
+    }
+
+    #[test]
+    fn generated_columns_say_so(rt: HostRuntime) {
+        for (extra, want) in [
+            ("", false),
+            ("auto_increment", false),
+            ("DEFAULT_GENERATED", false),
+            ("DEFAULT_GENERATED on update CURRENT_TIMESTAMP", false),
+            ("VIRTUAL GENERATED", true),
+            ("STORED GENERATED", true),
+            ("STORED GENERATED INVISIBLE", true),
+        ] {
+            assert_eq!(rt; is_generated(extra.as_bytes()), want, "of {extra}");
+        }
+    }
+
+    #[test]
+    fn rows_describe_columns(rt: HostRuntime) -> Result<(), Fail> {
+        let cases: [(&[u8], Option<&str>); 8] = [
+            (b"\x02id\x03int\x03int\x0eauto_increment", Some("id")),
+            (b"\x02\xc3\xa9\x07varchar\x0avarchar(9)\x00", Some("é")),
+            (b"\x01\xe9\x07varchar\x0avarchar(9)\x00", None),
+            (b"\x01n\x03int\x03int\x11VIRTUAL GENERATED", None),
+            (b"\x01f\x05float\x05float\x00", None),
+            (b"\xfb\x03int\x03int\x00", None),
+            (b"\x01n\x03int\xfb\x00", None),
+            (b"\x01n\x03int\x03int\xfb", None),
+        ];
+        for (payload, want) in cases {
+            let row = row_of(payload).expect(&rt, "four cells");
+            let found = column_of(rt.alloc(), &row)?;
+            let name = found.as_ref().map(|column| column.name.as_str());
+            assert_eq!(rt; name, want, "of {payload:?}");
+        }
+        Ok(())
+    }
+}

@@ -1,0 +1,175 @@
+// The messages that are sent.
+ghost use Rattle.std.specs.Prelude.{◌≡◌, ◌<◌, ◌≤◌, ◌++◌, length, true, false, IfOk, OnOk, IsErrOf};
+ghost use Rattle.sql_literals.specs.Literal.{quoted};
+ghost use Rattle.dumper_cli.specs.Texts.{response, query, columns_text, rows_text};
+ghost use Rattle.dumper_cli.specs.Place.{can_ask};
+
+use crate::column::Column;
+use crate::row_text::{bytes_into, names_into};
+use sql_literals::{Buffer, CellKind, OutOfMemory, cell_into, name_into};
+use std::alloc::Global;
+use thiserror::Error;
+
+/// The payload of the statement that sets a session up.
+pub const SET_UP: &[u8] =
+    b"\x03SET SESSION autocommit=1,sql_mode='NO_AUTO_VALUE_ON_ZERO',time_zone='+00:00',wait_timeout=2147483,sql_quote_show_create=1,foreign_key_checks=0";
+
+/// The payload of the statement after which texts come as they are stored.
+pub const SET_NAMES: &[u8] = b"\x03SET NAMES binary";
+
+/// The query for the columns of a table: behind this comes the schema, then [`AND_TABLE`], the
+/// table, and [`IN_ORDER`].
+pub const SELECT_COLUMNS: &[u8] =
+    b"SELECT COLUMN_NAME,DATA_TYPE,COLUMN_TYPE,EXTRA FROM information_schema.COLUMNS WHERE TABLE_SCHEMA=";
+
+pub const AND_TABLE: &[u8] = b" AND TABLE_NAME=";
+
+pub const IN_ORDER: &[u8] = b" ORDER BY ORDINAL_POSITION";
+
+/// The query for the rows of a table: behind this come the columns, then [`FROM`] and the table.
+pub const SELECT: &[u8] = b"SELECT";
+
+pub const FROM: &[u8] = b" FROM ";
+
+/// A query for rows has at most so many bytes.
+pub const QUERY_SIZE: usize = 1000000;
+
+/// Why no query for a table's rows was made.
+#[derive(Clone, Copy, Debug, PartialEq, Eq, Error)]
+pub enum QueryFault {
+    /// The table has no columns, or the query would have more than 1,000,000 bytes.
+    #[error("the table can't be asked for")]
+    Unasked,
+    /// Memory ran out.
+    #[error("out of memory")]
+    OutOfMemory,
+}
+
+// Appends a text's literal.
+fn text_into(text: &[u8], out: &mut Buffer) -> Result<(), OutOfMemory>
+    ensures { OnOk result (out.new.bytes ≡ out.old.bytes ++ quoted text.now) }
+{
+    cell_into(CellKind::Text, Some(text), out).map_err(|_| OutOfMemory)
+}
+
+/// The payload that answers a greeting: it logs this account in without a password. It is refused
+/// only for want of memory. (MySQL source documentation, `Protocol::HandshakeResponse41`.)
+#[tactic(auto, using(crate::proofs::Lengths::response_length))]
+pub fn response_text(alloc: Global, user: &[u8]) -> Result<Buffer, OutOfMemory>
+    ensures bytes { IfOk result (λ made. made.bytes ≡ response user.now) }
+    ensures short { length user.now ≤ 100 → IfOk result (λ made. length made.bytes < 16777215) }
+{
+    let mut out = Buffer::new(alloc);
+    bytes_into(b"\x05\xa2\x08\x00\x00\x00\x00\x04\x2d", &mut out)?;
+    bytes_into(&[0; 23], &mut out)?;
+    bytes_into(user, &mut out)?;
+    bytes_into(b"\x00\x00mysql_native_password\x00", &mut out)?;
+    Ok(out)
+}
+
+/// The payload of the query for the columns of a table. It is refused only for want of memory.
+#[tactic(auto, using(crate::proofs::Lengths::columns_length))]
+pub fn columns_query(alloc: Global, schema: &[u8], table: &[u8]) -> Result<Buffer, OutOfMemory>
+    ensures bytes { IfOk result (λ made. made.bytes ≡ query (columns_text schema.now table.now)) }
+    ensures short { length schema.now ≤ 100 → length table.now ≤ 100 → IfOk result (λ made. length made.bytes < 16777215) }
+{
+    let mut out = Buffer::new(alloc);
+    bytes_into(b"\x03", &mut out)?;
+    bytes_into(SELECT_COLUMNS, &mut out)?;
+    text_into(schema, &mut out)?;
+    bytes_into(AND_TABLE, &mut out)?;
+    text_into(table, &mut out)?;
+    bytes_into(IN_ORDER, &mut out)?;
+    Ok(out)
+}
+
+// The payload of the query for the rows, whatever its size.
+fn any_rows_query(
+    alloc: Global,
+    schema: &[u8],
+    table: &[u8],
+    columns: &[Column],
+) -> Result<Buffer, OutOfMemory>
+    ensures { IfOk result (λ made. made.bytes ≡ query (rows_text schema.now table.now columns.now)) }
+{
+    let mut out = Buffer::new(alloc);
+    bytes_into(b"\x03", &mut out)?;
+    bytes_into(SELECT, &mut out)?;
+    names_into(b' ', columns, &mut out)?;
+    bytes_into(FROM, &mut out)?;
+    name_into(schema, &mut out)?;
+    bytes_into(b".", &mut out)?;
+    name_into(table, &mut out)?;
+    Ok(out)
+}
+
+/// The payload of the query for the rows of a table with these columns. `Unasked` exactly where the
+/// table has no columns or the query's text more than 1,000,000 bytes, unless memory runs out.
+pub fn rows_query(
+    alloc: Global,
+    schema: &[u8],
+    table: &[u8],
+    columns: &[Column],
+) -> Result<Buffer, QueryFault>
+    ensures bytes { IfOk result (λ made. made.bytes ≡ query (rows_text schema.now table.now columns.now)) }
+    ensures asked { OnOk result (can_ask schema.now table.now columns.now ≡ true) }
+    ensures short { IfOk result (λ made. length made.bytes < 16777215) }
+    ensures unasked { IsErrOf result QueryFault.Unasked → can_ask schema.now table.now columns.now ≡ false }
+{
+    if columns.is_empty() {
+        return Err(QueryFault::Unasked);
+    }
+    let Ok(made) = any_rows_query(alloc, schema, table, columns) else {
+        return Err(QueryFault::OutOfMemory);
+    };
+    if made.len() > QUERY_SIZE + 1 {
+        return Err(QueryFault::Unasked);
+    }
+    Ok(made)
+}
+
+#[cfg(test)]
+mod tests {
+    use super::*;
+    use sql_literals::Name;
+    use std::test::Fail;
+
+    #[test]
+    fn logs_in_without_a_password(rt: HostRuntime) -> Result<(), Fail> {
+        let made = response_text(rt.alloc(), b"u")?;
+        let want =
+            b"\x05\xa2\x08\x00\x00\x00\x00\x04\x2d\x00\x00\x00\x00\x00\x00\x00\x00\x00\x00\x00\x00\x00\x00\x00\x00\x00\x00\x00\x00\x00\x00\x00u\x00\x00mysql_native_password\x00";
+        assert_eq!(rt; made.len(), 57);
+        assert_eq!(rt; made.as_slice(), want.as_slice());
+        Ok(())
+    }
+
+    #[test]
+    fn asks_for_columns(rt: HostRuntime) -> Result<(), Fail> {
+        let made = columns_query(rt.alloc(), b"s", b"t")?;
+        let want =
+            b"\x03SELECT COLUMN_NAME,DATA_TYPE,COLUMN_TYPE,EXTRA FROM information_schema.COLUMNS WHERE TABLE_SCHEMA='s' AND TABLE_NAME='t' ORDER BY ORDINAL_POSITION";
+        assert_eq!(rt; made.as_slice(), want.as_slice());
+        Ok(())
+    }
+
+    #[test]
+    fn asks_for_rows(rt: HostRuntime) -> Result<(), Fail> {
+        let id = Column {
+            name: Name::of(rt.alloc(), "id")?,
+            kind: CellKind::Number,
+        };
+        let text = Column {
+            name: Name::of(rt.alloc(), "a`b")?,
+            kind: CellKind::Text,
+        };
+        let made = rows_query(rt.alloc(), b"s", b"t", &[id, text])?;
+        assert_eq!(rt;
+            made.as_slice(),
+            b"\x03SELECT `id`,`a``b` FROM `s`.`t`".as_slice()
+        );
+        let refused = rows_query(rt.alloc(), b"s", b"t", &[]);
+        assert!(rt; matches!(refused, Err(QueryFault::Unasked)));
+        Ok(())
+    }
+}

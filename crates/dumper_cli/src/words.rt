@@ -1,0 +1,137 @@
+// The words of a command line.
+ghost use Rattle.std.specs.Prelude.{◌≡◌, ◌≤◌, length, Some, None, IfSome, MatchOption};
+ghost use Rattle.std.specs.List.{list_all};
+ghost use Rattle.dumper_cli.specs.Words.{is_word_byte, is_plain_word, is_path, are_options, asked_of};
+ghost use Rattle.dumper_cli.specs.AskedBy.{asked_by, IsShort};
+
+use sql_literals::{Name, NameList};
+
+/// What a command line asks for, lent out of its words.
+#[derive(Clone, Copy)]
+pub struct Words<'a> {
+    pub user: &'a Name,
+    pub schema: &'a Name,
+    pub table: &'a Name,
+    pub path: &'a Name,
+}
+
+// A letter, a digit or `_` of ASCII.
+fn is_word_byte(byte: u8) -> bool
+    ensures { result ≡ is_word_byte byte }
+{
+    matches!(byte, b'a'..=b'z' | b'A'..=b'Z' | b'0'..=b'9' | b'_')
+}
+
+fn are_word_bytes(bytes: &[u8]) -> bool
+    ensures { result ≡ list_all is_word_byte bytes.now }
+{
+    bytes.iter().all(|byte| is_word_byte(*byte))
+}
+
+// One to a hundred letters, digits and `_`.
+fn is_plain_word(word: &Name) -> bool
+    ensures { result ≡ is_plain_word word.now }
+{
+    let bytes = word.as_slice();
+    1 <= bytes.len() && bytes.len() <= 100 && are_word_bytes(bytes)
+}
+
+// A path isn't empty and doesn't begin with `-`.
+fn is_path(word: &Name) -> bool
+    ensures { result ≡ is_path word.now }
+{
+    match word.as_slice() {
+        [] => false,
+        [byte, ..] => *byte != b'-',
+    }
+}
+
+fn are_options(user: &Name, schema: &Name, table: &Name, path: &Name) -> bool
+    ensures { result ≡ are_options user.now schema.now table.now path.now }
+{
+    user.as_str() == "-u"
+        && schema.as_str() == "-B"
+        && table.as_str() == "-T"
+        && path.as_str() == "-o"
+}
+
+/// Reads the words of a command line: exactly the eight words `-u USER -B SCHEMA -T TABLE -o PATH`.
+/// User, schema and table are one to a hundred ASCII letters, digits and `_`; the path isn't empty and
+/// doesn't begin with `-`. `None` exactly where the words are others. Takes no memory.
+pub fn read_words(words: &NameList) -> Option<Words<'_>>
+    ensures value { MatchOption result (asked_of words.now ≡ None) (λ found. asked_of words.now ≡ Some (asked_by found)) }
+    ensures short { IfSome result (λ found. IsShort (asked_by found)) }
+{
+    let [a, user, b, schema, c, table, d, path] = words.as_slice() else {
+        return None;
+    };
+    if are_options(a, b, c, d)
+        && is_plain_word(user)
+        && is_plain_word(schema)
+        && is_plain_word(table)
+        && is_path(path)
+    {
+        return Some(Words {
+            user,
+            schema,
+            table,
+            path,
+        });
+    }
+    None
+}
+
+#[cfg(test)]
+mod tests {
+    use super::*;
+    use std::test::Fail;
+
+    #[test]
+    fn reads_exactly_the_eight_words(rt: HostRuntime) -> Result<(), Fail> {
+        let cases = [
+            ("-u u -B s -T t -o out", true),
+            ("-u Ab_09 -B _ -T 7 -o ./a-b/c", true),
+            (
+                "-u abcdefghijabcdefghijabcdefghijabcdefghijabcdefghijabcdefghijabcdefghijabcdefghijabcdefghijabcdefghij -B s -T t -o out",
+                true,
+            ),
+            (
+                "-u abcdefghijabcdefghijabcdefghijabcdefghijabcdefghijabcdefghijabcdefghijabcdefghijabcdefghijabcdefghijk -B s -T t -o out",
+                false,
+            ),
+            ("", false),
+            ("-u u -B s -T t -o", false),
+            ("-u u -B s -T t -o out more", false),
+            ("-B s -u u -T t -o out", false),
+            ("-u u -b s -T t -o out", false),
+            ("-u  -B s -T t -o out", false),
+            ("-u u -B s-s -T t -o out", false),
+            ("-u u -B s -T t` -o out", false),
+            ("-u é -B s -T t -o out", false),
+            ("-u u -B s -T t -o ", false),
+            ("-u u -B s -T t -o -x", false),
+        ];
+        for (line, want) in cases {
+            let mut words = NameList::new(rt.alloc());
+            for word in line.split(' ') {
+                words.push(Name::of(rt.alloc(), word)?)?;
+            }
+            assert_eq!(rt; read_words(&words).is_some(), want, "of {line}");
+        }
+        Ok(())
+    }
+
+    #[test]
+    fn lends_the_words_asked_for(rt: HostRuntime) -> Result<(), Fail> {
+        let mut words = NameList::new(rt.alloc());
+        for word in ["-u", "u", "-B", "s", "-T", "t", "-o", "out"] {
+            words.push(Name::of(rt.alloc(), word)?)?;
+        }
+        let found = read_words(&words).expect(&rt, "eight words");
+        assert_eq!(rt; found.user.as_str(), "u");
+        assert_eq!(rt; found.schema.as_str(), "s");
+        assert_eq!(rt; found.table.as_str(), "t");
+        assert_eq!(rt; found.path.as_str(), "out");
+        Ok(())
+    }
+}
