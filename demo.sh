@@ -1,0 +1,184 @@
+#!/usr/bin/env bash
+# Shows mydumper at work: starts a real server on files in a temporary folder, makes a table, dumps it,
+# loads the file with the server's own client into a second database, and compares the two tables.
+# The status is 0 exactly where the tables are equal.
+set -u
+
+PORT=3306
+ACCOUNT=reader
+SOURCE=shop
+TARGET=shop_again
+TABLE=items
+
+top=$(cd "$(dirname "${BASH_SOURCE[0]}")" && pwd) || exit 1
+folder=
+server=
+policy=
+
+say() {
+    printf -- '-- %s\n' "$*"
+}
+
+fail() {
+    printf 'demo: %s\n' "$*" >&2
+    exit 1
+}
+
+# Whatever ends the script: the server is ended by its process id, and the temporary folder goes.
+end() {
+    local status=$?
+    trap - EXIT
+    if [ -n "$server" ]; then
+        kill "$server" 2>/dev/null
+        wait "$server" 2>/dev/null
+    fi
+    [ -n "$policy" ] && rm -f "$policy"
+    [ -n "$folder" ] && rm -rf "$folder"
+    exit "$status"
+}
+trap end EXIT
+trap 'exit 129' HUP
+trap 'exit 130' INT
+trap 'exit 143' TERM
+
+# A server that is at hand: MariaDB's.
+find_server() {
+    PATH=$PATH:/usr/sbin:/usr/local/sbin command -v mariadbd
+}
+
+# Installs Debian's server. No service is started: a policy says so while the packages are set up.
+install_server() {
+    command -v apt-get >/dev/null || fail "no mariadbd is at hand, and no apt-get to install it with"
+    [ "$(id -u)" -eq 0 ] || fail "no mariadbd is at hand; install mariadb-server, or run this as root once"
+    say "installing mariadb-server"
+    if [ ! -e /usr/sbin/policy-rc.d ]; then
+        policy=/usr/sbin/policy-rc.d
+        { printf '#!/bin/sh\nexit 101\n' >"$policy" && chmod 755 "$policy"; } || fail "cannot write $policy"
+    else
+        /usr/sbin/policy-rc.d mariadb start >/dev/null 2>&1
+        [ $? -eq 101 ] || fail "/usr/sbin/policy-rc.d lets services start; install mariadb-server by hand"
+    fi
+    export DEBIAN_FRONTEND=noninteractive
+    {
+        apt-get update && apt-get install -y --no-install-recommends mariadb-server
+    } >"$folder/install.log" 2>&1 </dev/null || {
+        tail -n 20 "$folder/install.log" >&2
+        fail "mariadb-server was not installed"
+    }
+    [ -n "$policy" ] && rm -f "$policy"
+    policy=
+}
+
+# Proves and builds the program. `rt run` runs it too: without words it ends with status 2.
+build_program() {
+    command -v rt >/dev/null || fail "the toolchain's command rt is not at hand"
+    say "proving and building mydumper (the first time takes some minutes)"
+    rm -f "$top/crates/mydumper/out/mydumper"
+    (cd "$top/crates/mydumper" && rt run) >"$folder/build.log" 2>&1 </dev/null
+    program=$top/crates/mydumper/out/mydumper
+    [ -x "$program" ] || {
+        tail -n 20 "$folder/build.log" >&2
+        fail "mydumper was not built"
+    }
+}
+
+# The server's own client, as its root, over its socket.
+client() {
+    mariadb --no-defaults --default-character-set=utf8mb4 --socket="$folder/socket" --user=root "$@"
+}
+
+# mydumper connects to this port and no other.
+check_port() {
+    if (exec 3<>"/dev/tcp/127.0.0.1/$PORT") 2>/dev/null; then
+        fail "port $PORT of 127.0.0.1 is taken; mydumper connects there, so end what listens on it first"
+    fi
+}
+
+start_server() {
+    check_port
+    local user
+    user=$(id -un)
+    mariadb-install-db --no-defaults --datadir="$folder/data" --user="$user" \
+        --auth-root-authentication-method=normal --skip-test-db >"$folder/make.log" 2>&1 </dev/null || {
+        tail -n 20 "$folder/make.log" >&2
+        fail "the server's files were not made"
+    }
+    "$mariadbd" --no-defaults --datadir="$folder/data" --socket="$folder/socket" --port="$PORT" \
+        --bind-address=127.0.0.1 --pid-file="$folder/pid" --user="$user" --skip-name-resolve \
+        >"$folder/server.log" 2>&1 </dev/null &
+    server=$!
+    for _ in $(seq 120); do
+        client -e 'SELECT 1' >/dev/null 2>&1 && return
+        kill -0 "$server" 2>/dev/null || break
+        sleep 0.5
+    done
+    tail -n 20 "$folder/server.log" >&2
+    fail "the server did not start"
+}
+
+make_tables() {
+    client <<SQL || fail "the tables were not made"
+SET sql_mode='';
+CREATE USER '$ACCOUNT'@'127.0.0.1' IDENTIFIED WITH mysql_native_password USING '';
+CREATE DATABASE $SOURCE CHARACTER SET utf8mb4;
+CREATE TABLE $SOURCE.$TABLE (
+  id int NOT NULL PRIMARY KEY,
+  big bigint unsigned,
+  price decimal(10,2),
+  \`a\`\`b\` varchar(100),
+  \`größe\` enum('klein','groß'),
+  note text,
+  seen timestamp NULL
+);
+GRANT SELECT ON $SOURCE.$TABLE TO '$ACCOUNT'@'127.0.0.1';
+INSERT INTO $SOURCE.$TABLE VALUES
+(1, 18446744073709551615, -0.50, 'it''s', 'klein', 'a "quoted" word', '2024-05-01 12:00:00'),
+(2, 0, 12345678.90, 'C:\\\\dir', 'groß', 'two\nlines\r\n', NULL),
+(3, NULL, NULL, NULL, NULL, NULL, NULL),
+(4, 7, 0.00, CONCAT('a', CHAR(0), 'b', CHAR(26), 'c'), 'klein', 'NULL', NULL),
+(5, 8, 1.00, 'naïve – 漢字 – 🙂', 'groß', '', NULL),
+(-6, 9, 1.25, '\`;-- ', 'klein', ');DROP TABLE t;', NULL);
+CREATE DATABASE $TARGET CHARACTER SET utf8mb4;
+CREATE TABLE $TARGET.$TABLE LIKE $SOURCE.$TABLE;
+SQL
+}
+
+# The rows of a table, every cell as the digits of its bytes, in the order of the lines.
+rows_of() {
+    client --batch --skip-column-names -e "SELECT $cells FROM $1.$TABLE" | LC_ALL=C sort
+}
+
+compare_tables() {
+    local cells
+    cells=$(client --batch --skip-column-names --raw -e "
+        SET group_concat_max_len=1000000;
+        SELECT GROUP_CONCAT('HEX(CAST(\`', REPLACE(COLUMN_NAME, '\`', '\`\`'), '\` AS BINARY))'
+            ORDER BY ORDINAL_POSITION)
+        FROM information_schema.COLUMNS WHERE TABLE_SCHEMA='$SOURCE' AND TABLE_NAME='$TABLE'") || return 1
+    rows_of "$SOURCE" >"$folder/source.rows" && rows_of "$TARGET" >"$folder/target.rows" || return 1
+    [ -s "$folder/source.rows" ] && cmp "$folder/source.rows" "$folder/target.rows"
+}
+
+folder=$(mktemp -d "${TMPDIR:-/tmp}/mydumper-demo.XXXXXX") || fail "no temporary folder"
+check_port
+mariadbd=$(find_server) || {
+    install_server
+    mariadbd=$(find_server) || fail "mariadb-server was installed, and there is no mariadbd"
+}
+build_program
+say "starting $("$mariadbd" --no-defaults --version | sed 's/^[^ ]* *//')"
+start_server
+make_tables
+
+words=(-u "$ACCOUNT" -B "$SOURCE" -T "$TABLE" -o dump)
+say "mydumper ${words[*]}"
+(cd "$folder" && "$program" "${words[@]}") || fail "mydumper ended with status $?"
+file=$folder/dump/$SOURCE.$TABLE.00000.sql
+[ -f "$file" ] || fail "there is no file $SOURCE.$TABLE.00000.sql"
+say "dump/$SOURCE.$TABLE.00000.sql, $(wc -c <"$file") bytes:"
+cat "$file"
+
+say "loading the file into $TARGET"
+client --binary-mode --init-command="SET SESSION sql_mode='NO_AUTO_VALUE_ON_ZERO'" "$TARGET" <"$file" || fail "the client did not load the file"
+compare_tables || fail "$SOURCE.$TABLE and $TARGET.$TABLE are not equal"
+say "$SOURCE.$TABLE and $TARGET.$TABLE: $(wc -l <"$folder/source.rows") rows, equal"
