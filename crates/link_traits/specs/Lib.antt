@@ -7,4 +7,3 @@ pub mod Moments
 pub mod Replies
 pub mod Script
 pub mod Site
-pub mod Status

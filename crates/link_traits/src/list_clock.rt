@@ -95,8 +95,6 @@ mod tests {
     fn times_come_in_turn(rt: HostRuntime) -> Result<(), Fail> {
         let mut times = NumberList::new(rt.alloc());
         let mut faults = NumberList::new(rt.alloc());
-        let mut none = ListClock::new(NumberList::new(rt.alloc()), NumberList::new(rt.alloc()));
-        assert_eq!(rt; time(&mut none), Some(0));
         times.push(70)?;
         times.push(50)?;
         faults.push(1)?;
@@ -106,5 +104,11 @@ mod tests {
         }
         assert_eq!(rt; clock.script.counts(), (1, 0));
         Ok(())
+    }
+
+    #[test]
+    fn a_clock_without_times_gives_0(rt: HostRuntime) {
+        let mut clock = ListClock::new(NumberList::new(rt.alloc()), NumberList::new(rt.alloc()));
+        assert_eq!(rt; time(&mut clock), Some(0));
     }
 }

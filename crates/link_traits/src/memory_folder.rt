@@ -280,6 +280,7 @@ impl Folder for MemoryFolder {
 mod tests {
     use super::*;
     use crate::folder::Shelf;
+    use std::process::Abort;
     use std::test::Fail;
 
     fn numbers(alloc: Global, of: &[u64]) -> Result<NumberList, OutOfMemory> {
@@ -322,10 +323,8 @@ mod tests {
         shelf.finish()
     }
 
-    #[test]
-    fn files_are_put_and_listed(rt: HostRuntime) -> Result<(), Fail> {
-        let mut folder = MemoryFolder::new(rt.alloc(), NumberList::new(rt.alloc()));
-        assert!(rt; lists(&mut folder, &[]));
+    // Puts four files, the last of which has the name of the first.
+    fn put_four(rt: &impl Abort, folder: &mut MemoryFolder) -> Result<(), OutOfMemory> {
         for (name, bytes) in [
             ("m", b"old"),
             ("b.sql", b"row"),
@@ -335,10 +334,37 @@ mod tests {
             assert_eq!(rt; folder.out, 0);
             folder.put(name, bytes)?;
         }
+        Ok(())
+    }
+
+    #[test]
+    fn files_are_put_and_listed(rt: HostRuntime) -> Result<(), Fail> {
+        let mut folder = MemoryFolder::new(rt.alloc(), NumberList::new(rt.alloc()));
+        folder.aim("dump")?;
+        assert!(rt; lists(&mut folder, &[]));
+        put_four(&rt, &mut folder)?;
         assert!(rt; lists(&mut folder, &["B", "b.sql", "m"]));
+        Ok(())
+    }
+
+    #[test]
+    fn a_file_has_the_bytes_that_were_put_last(rt: HostRuntime) -> Result<(), Fail> {
+        let mut folder = MemoryFolder::new(rt.alloc(), NumberList::new(rt.alloc()));
+        put_four(&rt, &mut folder)?;
         assert!(rt; holds(&folder, "m", Some(b"new")));
         assert!(rt; holds(&folder, "b.sql", Some(b"row")));
         assert!(rt; holds(&folder, "b", None));
+        Ok(())
+    }
+
+    // Makes the files `z` and `a` by a shelf.
+    fn make_two(folder: &mut MemoryFolder) -> Result<(), FolderFailed>
+        ensures { OnOk result (folder.new.out ≡ folder.old.out) }
+    {
+        let mut shelf = folder.shelf()?;
+        make(&mut shelf, "z", b"rows")?;
+        make(&mut shelf, "a", b"")?;
+        folder.take_back(shelf);
         Ok(())
     }
 
@@ -346,60 +372,75 @@ mod tests {
     fn a_shelf_brings_its_files(rt: HostRuntime) -> Result<(), Fail> {
         let mut folder = MemoryFolder::new(rt.alloc(), NumberList::new(rt.alloc()));
         folder.put("m", b"0")?;
-        let mut shelf = folder.shelf()?;
-        make(&mut shelf, "z", b"rows")?;
-        make(&mut shelf, "a", b"")?;
-        folder.take_back(shelf);
+        make_two(&mut folder)?;
+        assert_eq!(rt; folder.out, 0);
         assert!(rt; lists(&mut folder, &["a", "m", "z"]));
         assert!(rt; holds(&folder, "z", Some(b"-rows")));
         assert!(rt; holds(&folder, "a", Some(b"-")));
-        assert_eq!(rt; folder.out, 0);
+        Ok(())
+    }
+
+    #[test]
+    fn a_file_of_a_shelf_is_put_again(rt: HostRuntime) -> Result<(), Fail> {
+        let mut folder = MemoryFolder::new(rt.alloc(), NumberList::new(rt.alloc()));
+        folder.put("m", b"0")?;
+        make_two(&mut folder)?;
         folder.put("z", b"again")?;
         assert!(rt; lists(&mut folder, &["a", "m", "z"]));
         assert!(rt; holds(&folder, "z", Some(b"again")));
         Ok(())
     }
 
+    // Which calls of a shelf succeed, of those that make a file.
+    fn successes(shelf: &mut MemoryShelf) -> [bool; 3]
+        requires { shelf.old.begun ≡ None }
+    {
+        if shelf.create("t").is_err() {
+            return [false; 3];
+        }
+        let appends = shelf.append(b"rows").is_ok();
+        [true, appends, shelf.finish().is_ok()]
+    }
+
     #[test]
     fn listed_calls_of_a_shelf_fail(rt: HostRuntime) -> Result<(), Fail> {
-        // The call that is listed, and which file the folder has then.
-        for (listed, file) in [
-            (1_000_000, None),
-            (1_000_001, Some(b"".as_slice())),
-            (1_000_002, None),
-            (1_000_003, Some(b"rows".as_slice())),
+        // The call that is listed, which calls succeed, and which file the folder has then.
+        for (listed, succeed, file) in [
+            (1_000_000, [false, false, false], None),
+            (1_000_001, [true, false, true], Some(b"".as_slice())),
+            (1_000_002, [true, true, false], None),
+            (1_000_003, [true, true, true], Some(b"rows".as_slice())),
         ] {
             let mut folder = MemoryFolder::new(rt.alloc(), numbers(rt.alloc(), &[listed])?);
             let mut shelf = folder.shelf()?;
-            if shelf.create("t").is_ok() {
-                assert_eq!(rt; shelf.append(b"rows").is_err(), listed == 1_000_001);
-                assert_eq!(rt; shelf.finish().is_err(), listed == 1_000_002);
-            } else {
-                assert_eq!(rt; listed, 1_000_000);
-            }
+            assert_eq!(rt; successes(&mut shelf), succeed, "at {listed}");
             folder.take_back(shelf);
             assert!(rt; holds(&folder, "t", file), "at {listed}");
-            assert_eq!(rt;
-                folder.script.counts(),
-                (u64::from(listed < 1_000_003), 0),
-                "at {listed}"
-            );
+            let failures = u64::from(listed < 1_000_003);
+            assert_eq!(rt; folder.script.counts(), (failures, 0), "at {listed}");
         }
         Ok(())
     }
 
     #[test]
     fn listed_calls_of_a_folder_fail(rt: HostRuntime) -> Result<(), Fail> {
-        let mut folder = MemoryFolder::new(rt.alloc(), numbers(rt.alloc(), &[0, 2, 1_000_000])?);
+        let mut folder = MemoryFolder::new(rt.alloc(), numbers(rt.alloc(), &[0, 2])?);
         folder.put("t", b"")?;
         assert!(rt; matches!(folder.list(), Err(ListFault::Failed)));
         assert!(rt; lists(&mut folder, &["t"]));
         assert!(rt; folder.shelf().is_err());
         assert_eq!(rt; folder.script.counts(), (2, 0));
+        Ok(())
+    }
+
+    #[test]
+    fn a_shelf_that_failed_has_no_number(rt: HostRuntime) -> Result<(), Fail> {
+        let mut folder = MemoryFolder::new(rt.alloc(), numbers(rt.alloc(), &[0, 1_000_000])?);
+        assert!(rt; folder.shelf().is_err());
         let mut shelf = folder.shelf()?;
         assert!(rt; shelf.create("u").is_err(), "the first shelf is object 1");
         folder.take_back(shelf);
-        assert_eq!(rt; folder.script.counts(), (3, 0));
+        assert_eq!(rt; folder.script.counts(), (2, 0));
         Ok(())
     }
 }

@@ -229,6 +229,19 @@ mod tests {
         Ok(made)
     }
 
+    // A site of these conversations, whose calls fail at these numbers.
+    fn site_of(
+        alloc: Global,
+        of: &[[&str; 3]],
+        faults: &[u64],
+        cut: u32,
+    ) -> Result<ReplySite, OutOfMemory>
+        ensures { IfOk result (λ site. site.out ≡ 0) }
+    {
+        let talks = conversations(alloc, of)?;
+        Ok(ReplySite::new(alloc, talks, numbers(alloc, faults)?, cut))
+    }
+
     // Whether these bytes come next.
     fn hears<L: Link>(link: &mut L, bytes: &[u8]) -> bool {
         let mut buffer = [0; 8];
@@ -238,24 +251,63 @@ mod tests {
         }
     }
 
+    // Whether the message is sent.
+    fn sends<L: Link>(link: &mut L, message: &[u8]) -> bool {
+        link.send(message).is_ok()
+    }
+
+    // Whether these pieces come next, which have spaces between them.
+    fn hears_each<L: Link>(link: &mut L, pieces: &str) -> bool {
+        for piece in pieces.split(' ') {
+            if !hears(link, piece.as_bytes()) {
+                return false;
+            }
+        }
+        true
+    }
+
+    // Whether each of three replies comes in these pieces, and nothing behind them.
+    fn hears_all<L: Link>(link: &mut L, replies: &[&str; 3]) -> bool {
+        for pieces in replies {
+            if !hears_each(link, pieces) || !sends(link, b"on") {
+                return false;
+            }
+        }
+        !hears(link, b"")
+    }
+
+    // Sends two messages on the next link, and gives it back.
+    fn talk(site: &mut ReplySite, first: &[u8], second: &[u8]) -> Result<(), LinkFailed>
+        requires { site.old.out ≡ 0 }
+        ensures { OnOk result (site.new.out ≡ 0) }
+    {
+        let mut link = site.connect_sole()?;
+        link.send(first)?;
+        link.send(second)?;
+        site.give_back(link);
+        Ok(())
+    }
+
+    // Whether the link of this number came back with these two messages.
+    fn has_sent(site: &ReplySite, link: u32, first: &[u8], second: &[u8]) -> bool {
+        site.has_returned(link) && are(site.sent(link).as_slice(), first, second)
+    }
+
+    fn are(messages: &[Bytes], first: &[u8], second: &[u8]) -> bool {
+        messages.len() == 2 && messages[0].as_slice() == first && messages[1].as_slice() == second
+    }
+
     #[test]
     fn each_send_makes_the_next_bytes_wait(rt: HostRuntime) -> Result<(), Fail> {
-        for (cut, heard) in [
+        for (cut, replies) in [
             (0, ["abcd", "ef", "g"]),
             (1, ["a b c d", "e f", "g"]),
             (3, ["abc d", "ef", "g"]),
         ] {
-            let talk = conversations(rt.alloc(), &[["abcd", "ef", "g"]])?;
-            let mut site = ReplySite::new(rt.alloc(), talk, NumberList::new(rt.alloc()), cut);
+            let mut site = site_of(rt.alloc(), &[["abcd", "ef", "g"]], &[], cut)?;
             let mut link = site.connect_sole()?;
-            for reply in heard {
-                for piece in reply.split(' ') {
-                    assert!(rt; hears(&mut link, piece.as_bytes()), "{piece} at {cut}");
-                }
-                link.send(b"on")?;
-            }
-            assert!(rt; !hears(&mut link, b""), "past the end at {cut}");
-            assert!(rt; link.send(b"late").is_err(), "after a failure at {cut}");
+            assert!(rt; hears_all(&mut link, &replies), "at {cut}");
+            assert!(rt; !sends(&mut link, b"late"), "after a failure at {cut}");
             site.give_back(link);
             assert_eq!(rt; site.script.counts(), (2, 0), "at {cut}");
         }
@@ -264,11 +316,9 @@ mod tests {
 
     #[test]
     fn several_replies_may_wait(rt: HostRuntime) -> Result<(), Fail> {
-        let talk = conversations(rt.alloc(), &[["ab", "cd", "ef"]])?;
-        let mut site = ReplySite::new(rt.alloc(), talk, NumberList::new(rt.alloc()), 0);
+        let mut site = site_of(rt.alloc(), &[["ab", "cd", "ef"]], &[], 0)?;
         let mut link = site.connect_sole()?;
-        link.send(b"one")?;
-        link.send(b"two")?;
+        assert!(rt; sends(&mut link, b"one") && sends(&mut link, b"two"));
         assert!(rt; hears(&mut link, b"abcdef"));
         site.give_back(link);
         Ok(())
@@ -276,41 +326,50 @@ mod tests {
 
     #[test]
     fn messages_come_back_by_number(rt: HostRuntime) -> Result<(), Fail> {
-        let talk = conversations(rt.alloc(), &[["a", "", ""], ["b", "", ""]])?;
-        let mut site = ReplySite::new(rt.alloc(), talk, numbers(rt.alloc(), &[1_000_000])?, 0);
-        let mut first = site.connect_sole()?;
-        first.send(b"one")?;
-        first.send(b"two")?;
-        site.give_back(first);
-        assert!(rt; site.connect_sole().is_err(), "link 1 is listed");
-        assert_eq!(rt; site.script.counts(), (1, 0));
-        let mut third = site.connect_sole()?;
-        assert!(rt; !hears(&mut third, b"b"), "the conversation is used up");
-        site.give_back(third);
-        assert!(rt; site.has_returned(0) && !site.has_returned(1) && site.has_returned(2));
-        let sent = site.sent(0).as_slice();
-        assert_eq!(rt; sent.len(), 2);
-        assert_eq!(rt; sent[0].as_slice(), b"one".as_slice());
-        assert_eq!(rt; sent[1].as_slice(), b"two".as_slice());
+        let mut site = site_of(rt.alloc(), &[["a", "", ""], ["b", "", ""]], &[], 0)?;
+        site.aim("localhost", 3306)?;
+        talk(&mut site, b"one", b"two")?;
+        talk(&mut site, b"three", b"four")?;
+        assert!(rt; has_sent(&site, 0, b"one", b"two"));
+        assert!(rt; has_sent(&site, 1, b"three", b"four"));
         Ok(())
     }
 
     #[test]
+    fn a_failed_connection_uses_up_its_conversation(rt: HostRuntime) -> Result<(), Fail> {
+        let talks = [["a", "", ""], ["b", "", ""]];
+        let mut site = site_of(rt.alloc(), &talks, &[1_000_000], 0)?;
+        talk(&mut site, b"one", b"two")?;
+        assert!(rt; site.connect_sole().is_err(), "link 1 is listed");
+        assert_eq!(rt; site.script.counts(), (1, 0));
+        let mut third = site.connect_sole()?;
+        assert!(rt; !hears(&mut third, b"b"));
+        site.give_back(third);
+        assert!(rt; site.has_returned(0) && !site.has_returned(1) && site.has_returned(2));
+        Ok(())
+    }
+
+    // Which calls of a link succeed, of a `recv`, a `send` and a second `recv`.
+    fn successes<L: Link>(link: &mut L) -> [bool; 3] {
+        let first = hears(link, b"a");
+        let second = sends(link, b"one");
+        [first, second, hears(link, b"b")]
+    }
+
+    #[test]
     fn listed_calls_fail(rt: HostRuntime) -> Result<(), Fail> {
-        // The call that is listed, and how many calls work before it.
-        for (listed, works) in [(1, 0), (2, 1), (3, 2), (1_000_001, 3)] {
-            let talk = conversations(rt.alloc(), &[["a", "b", "c"]])?;
-            let mut site = ReplySite::new(rt.alloc(), talk, numbers(rt.alloc(), &[listed])?, 0);
+        // The call that is listed, and which calls succeed.
+        for (listed, succeed, failures) in [
+            (1, [false, false, false], 3),
+            (2, [true, false, false], 2),
+            (3, [true, true, false], 1),
+            (1_000_001, [true, true, true], 0),
+        ] {
+            let mut site = site_of(rt.alloc(), &[["a", "b", "c"]], &[listed], 0)?;
             let mut link = site.connect_sole()?;
-            assert_eq!(rt; hears(&mut link, b"a"), works > 0, "recv at {listed}");
-            assert_eq!(rt; link.send(b"one").is_ok(), works > 1, "send at {listed}");
-            assert_eq!(rt;
-                hears(&mut link, b"b"),
-                works > 2,
-                "second recv at {listed}"
-            );
+            assert_eq!(rt; successes(&mut link), succeed, "at {listed}");
             site.give_back(link);
-            assert_eq!(rt; site.script.counts(), (3 - works, 0), "at {listed}");
+            assert_eq!(rt; site.script.counts(), (failures, 0), "at {listed}");
         }
         Ok(())
     }

@@ -3,13 +3,13 @@
 #![tactic(auto)]
 
 use dumper_cli::mydumper;
-use link_traits::{DiskFolder, ErrSink, SystemClock, TcpSite};
 use sql_literals::{Name, NameList};
 use std::alloc::Global;
 use std::io::ErrorKind;
 use std::process::ExitCode;
 use std::rt::Env;
 use std::{env, io};
+use system_outside::{DiskFolder, ErrSink, SystemClock, TcpSite};
 
 /// Why there are no words: they aren't UTF-8, or memory ran out.
 enum WordsFault {

@@ -4,9 +4,9 @@ ghost use Rattle.std.specs.Io.KnownBytes.{Appends, Consumes};
 ghost use Rattle.link_traits.specs.Cause.{HasCause};
 ghost use Rattle.link_traits.specs.Link.{begun, IsWithin};
 
-use crate::link::{Link, LinkFailed};
 use crate::read_buffer::{READ_SIZE, ReadBuffer};
 use crate::transfer::{read_some, write_front};
+use link_traits::{Link, LinkFailed};
 use sql_literals::OutOfMemory;
 use std::alloc::Global;
 use std::io::{Read, Write};
@@ -26,7 +26,7 @@ pub struct TcpLink<S: Read + Write = TcpStream> {
 
 impl<S: Read + Write> Model for TcpLink<S> {
     ghost use Rattle.std.specs.Io.KnownBytes.{prepend_known};
-    ghost use Rattle.link_traits.specs.Status.{LinkStatus};
+    ghost use Rattle.system_outside.specs.Status.{LinkStatus};
 
     ghost Value = { LinkStatus };
 

@@ -1,7 +1,7 @@
 use Rattle.std.proofs.Common.{◌≤◌, ◌+◌, ◌∙◌, sym, arith}
 use Rattle.std.proofs.lemmas.Grind.{common_steps}
-use Rattle.link_traits.proofs.Moves.{taken_off}
-use Rattle.link_traits.proofs.read_buffer.ReadBuffer.take_front.Goals as goal
+use Rattle.system_outside.proofs.Moves.{taken_off}
+use Rattle.system_outside.proofs.read_buffer.ReadBuffer.take_front.Goals as goal
 
 pub returns-clause-bytes : goal.returns-clause-bytes
 returns-clause-bytes c =

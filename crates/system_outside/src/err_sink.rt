@@ -3,8 +3,8 @@ ghost use Rattle.std.specs.Prelude.{◌≡◌, [], ℕ, take, OnOk, OnErr};
 ghost use Rattle.std.specs.Io.KnownBytes.{Appends};
 ghost use Rattle.link_traits.specs.Cause.{HasCause};
 
-use crate::sink::{Sink, SinkFailed};
 use crate::transfer::write_front;
+use link_traits::{Sink, SinkFailed};
 use std::io::Write;
 use std::marker::Model;
 use std::rt::Stderr;
@@ -18,7 +18,7 @@ pub struct ErrSink<W: Write = Stderr> {
 }
 
 impl<W: Write> Model for ErrSink<W> {
-    ghost use Rattle.link_traits.specs.Status.{SinkStatus};
+    ghost use Rattle.system_outside.specs.Status.{SinkStatus};
 
     ghost Value = { SinkStatus };
 

@@ -1,11 +1,11 @@
 // A folder that is a directory of the disk.
-ghost use Rattle.std.specs.Prelude.{◌≡◌, ◌≤◌, ◌+◌, ◌-◌, ◌^◌, [], None, false, min, IfOk, IfSome, IsSorted};
+ghost use Rattle.std.specs.Prelude.{◌≡◌, ◌≤◌, ◌+◌, ◌-◌, ◌^◌, [], None, false, min, IfOk, IfSome, IsSorted, OnOk};
 ghost use Rattle.std.specs.Ordering.{nat_cmp};
 ghost use Rattle.std.specs.Cmp.Lexicographic.{slice_cmp};
 ghost use Rattle.link_traits.specs.Cause.{Rose};
 
 use crate::disk_shelf::DiskShelf;
-use crate::folder::{Folder, FolderFailed, ListFault};
+use link_traits::{Folder, FolderFailed, ListFault};
 use sql_literals::{Name, NameList, OutOfMemory};
 use std::io::ErrorKind;
 use std::marker::Model;
@@ -24,7 +24,7 @@ pub struct DiskFolder<R> {
 impl<R> Model for DiskFolder<R> {
     ghost use Rattle.std.specs.Prelude.{string_bytes};
     ghost use Rattle.std.specs.Option.{option_map};
-    ghost use Rattle.link_traits.specs.Status.{FolderStatus};
+    ghost use Rattle.system_outside.specs.Status.{FolderStatus};
 
     ghost Value = { FolderStatus };
 
@@ -168,7 +168,7 @@ where
 #[cfg(test)]
 mod tests {
     use super::*;
-    use crate::folder::Shelf;
+    use link_traits::Shelf;
     use std::test::Fail;
     use std::{env, process};
 
@@ -177,7 +177,7 @@ mod tests {
         let temp = env::temp_dir(&rt)?;
         let temp = temp.as_path().as_str();
         let id = process::id(rt.process());
-        let path = format!(in rt.alloc(); "{temp}/link_traits-{test}-{id}")?;
+        let path = format!(in rt.alloc(); "{temp}/system_outside-{test}-{id}")?;
         let _ = fs::remove_dir_all(&rt, path.as_str());
         Ok(path)
     }
@@ -190,6 +190,15 @@ mod tests {
             all.push(' ')?;
         }
         Ok(all)
+    }
+
+    // Makes an empty file.
+    fn make(shelf: &mut DiskShelf<HostRuntime>, name: &str) -> Result<(), FolderFailed>
+        requires { shelf.old.begun ≡ false }
+        ensures { OnOk result (shelf.new.begun ≡ false) }
+    {
+        shelf.create(name)?;
+        shelf.finish()
     }
 
     #[test]
@@ -218,8 +227,18 @@ mod tests {
             fs::read_to_string(&rt, file.as_str())?.as_str(),
             "first, second"
         );
-        shelf.create("s.sql")?;
-        shelf.finish()?;
+        fs::remove_dir_all(&rt, path.as_str())?;
+        Ok(())
+    }
+
+    #[test]
+    fn lists_files_by_name(rt: HostRuntime) -> Result<(), Fail> {
+        let path = fresh_path(rt, "sorts")?;
+        let mut folder = DiskFolder::new(rt);
+        folder.aim(path.as_str())?;
+        let mut shelf = folder.shelf()?;
+        make(&mut shelf, "t.sql")?;
+        make(&mut shelf, "s.sql")?;
         assert_eq!(rt; spelled(rt, &folder.list()?)?.as_str(), "s.sql t.sql ");
         fs::remove_dir_all(&rt, path.as_str())?;
         Ok(())
@@ -231,8 +250,7 @@ mod tests {
         let mut folder = DiskFolder::new(rt);
         folder.aim(path.as_str())?;
         let mut shelf = folder.shelf()?;
-        shelf.create("t.sql")?;
-        shelf.finish()?;
+        make(&mut shelf, "t.sql")?;
         assert_eq!(rt; shelf.create("t.sql"), Err(FolderFailed));
         folder.take_back(shelf);
         assert_eq!(rt; folder.faults, 1);

@@ -1,9 +1,8 @@
 // A server that is reached over TCP.
 ghost use Rattle.std.specs.Prelude.{◌≡◌, ◌≤◌, ◌+◌, ◌-◌, ◌^◌, [], None, false, min, IfOk, IfSome};
 
-use crate::link::{Link, LinkFailed};
-use crate::site::Site;
 use crate::tcp_link::TcpLink;
+use link_traits::{Link, LinkFailed, Site};
 use sql_literals::OutOfMemory;
 use std::marker::Model;
 use std::net::{Net, OpenStream, TcpStream};
@@ -34,7 +33,7 @@ pub struct TcpSite<R> {
 }
 
 impl<R> Model for TcpSite<R> {
-    ghost use Rattle.link_traits.specs.Status.{SiteStatus};
+    ghost use Rattle.system_outside.specs.Status.{SiteStatus};
 
     ghost Value = { SiteStatus };
 
@@ -154,9 +153,17 @@ mod tests {
         let mut payload = [0; 5];
         receive(&mut link, &mut payload)?;
         assert_eq!(rt; payload, *b"hello");
+        Ok(())
+    }
+
+    #[test]
+    fn receives_what_waits_before_it_reads_on(rt: HostRuntime) -> Result<(), Fail> {
+        let (_site, mut link, mut peer) = connected(rt)?;
+        peer.write_all(b"hello, and more")?;
+        receive(&mut link, &mut [0; 5])?;
         let mut long = vec![in rt.alloc(); 0; READ_SIZE]?;
         assert_eq!(rt; link.recv(long.as_mut_slice())?, 10);
-        assert!(rt; long.starts_with(b", and more"), "out of the link's buffer");
+        assert!(rt; long.starts_with(b", and more"));
         peer.write_all(b"straight")?;
         assert_eq!(rt; link.recv(long.as_mut_slice())?, 8);
         assert!(rt; long.starts_with(b"straight"));

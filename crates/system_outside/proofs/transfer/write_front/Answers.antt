@@ -1,7 +1,7 @@
 use Rattle.std.proofs.Common.{arith}
 use Rattle.std.proofs.lemmas.Grind.{common_steps}
-use Rattle.link_traits.proofs.Moves.{appends_more}
-use Rattle.link_traits.proofs.transfer.write_front.Goals as goal
+use Rattle.system_outside.proofs.Moves.{appends_more}
+use Rattle.system_outside.proofs.transfer.write_front.Goals as goal
 
 pub loop-preserved : goal.loop-preserved
 loop-preserved g c = record {

@@ -1,7 +1,7 @@
 // The time of day as the system tells it.
 ghost use Rattle.std.specs.Prelude.{◌≡◌, ◌<◌, [], IfSome};
 
-use crate::clock::{Clock, ClockFailed};
+use link_traits::{Clock, ClockFailed};
 use std::marker::Model;
 use std::time;
 use std::time::{SystemTime, UNIX_EPOCH};

@@ -3,8 +3,8 @@ ghost use Rattle.std.specs.Prelude.{◌≡◌, ◌<◌, ◌≤◌, ◌+◌, ◌-
 ghost use Rattle.std.specs.Io.KnownBytes.{Appends};
 ghost use Rattle.link_traits.specs.Cause.{HasCause};
 
-use crate::folder::{FolderFailed, Shelf};
 use crate::transfer::write_front;
+use link_traits::{FolderFailed, Shelf};
 use std::fs::OpenOptions;
 use std::io::Write;
 use std::marker::Model;
@@ -25,7 +25,7 @@ pub struct DiskShelf<R: Files> {
 
 impl<R: Files> Model for DiskShelf<R> {
     ghost use Rattle.std.specs.Prelude.{◌<◌, ◌^◌, is_some, option_and_then};
-    ghost use Rattle.link_traits.specs.Status.{ShelfStatus};
+    ghost use Rattle.system_outside.specs.Status.{ShelfStatus};
 
     ghost Value = { ShelfStatus };
 
