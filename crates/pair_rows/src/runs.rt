@@ -44,6 +44,25 @@ const ROWS: [&[u8]; 7] = [
     EOF,
 ];
 
+const NO_ROWS: [&[u8]; 5] = [b"\x02", DEFINITION, DEFINITION, EOF, EOF];
+
+const NOT_A_NUMBER: [&[u8]; 6] = [b"\x02", DEFINITION, DEFINITION, EOF, b"\x01x\x01a", EOF];
+
+const A_CELL_MORE: [&[u8]; 6] = [
+    b"\x02",
+    DEFINITION,
+    DEFINITION,
+    EOF,
+    b"\x011\x01a\x01b",
+    EOF,
+];
+
+const ERR_BEHIND_A_ROW: [&[u8]; 6] = [b"\x02", DEFINITION, DEFINITION, EOF, b"\x011\x01a", REFUSED];
+
+const REFUSED: &[u8] = b"\xff\x15\x04#28000no";
+
+const SWITCH: &[u8] = b"\xfemysql_native_password\x00abcdefghijklmnopqrst\x00";
+
 const FILE: &[u8] = b"SET NAMES binary;
 SET FOREIGN_KEY_CHECKS=0;
 SET TIME_ZONE='+00:00';
@@ -51,6 +70,41 @@ INSERT INTO `t` (`id`,`a`) VALUES
 (1,'a'),
 (2,NULL);
 ";
+
+const LOGIN: &[u8] =
+    b"\x39\x00\x00\x01\x05\xa2\x08\x00\x00\x00\x00\x04\x2d\x00\x00\x00\x00\x00\x00\x00\x00\x00\x00\x00\x00\x00\x00\x00\x00\x00\x00\x00\x00\x00\x00\x00u\x00\x00mysql_native_password\x00";
+
+const SET_NAMES: &[u8] = b"\x11\x00\x00\x00\x03SET NAMES binary";
+
+const QUERY: &[u8] = b"\x1d\x00\x00\x00\x03SELECT `id`,`a` FROM `s`.`t`";
+
+const GOODBYE: &[u8] = b"\x01\x00\x00\x00\x01";
+
+const WORDS: [&str; 8] = ["-u", "u", "-B", "s", "-T", "t", "-o", "out"];
+
+const SEVEN_WORDS: [&str; 7] = ["-u", "u", "-B", "s", "-T", "t", "-o"];
+
+// What a run meets: its words, the server's answer to the login and its rows, the greatest answer of
+// a `recv` (0 for no limit), the calls of the site that fail, and a file that the folder has before.
+#[derive(Clone, Copy)]
+struct Case<'a> {
+    words: &'a [&'a str],
+    login: &'a [u8],
+    rows: &'a [&'a [u8]],
+    cut: u32,
+    faults: &'a [u64],
+    listed: Option<&'a str>,
+}
+
+// A table of two rows, and nothing in its way.
+const PLAIN: Case<'static> = Case {
+    words: &WORDS,
+    login: OK,
+    rows: &ROWS,
+    cut: 0,
+    faults: &[],
+    listed: None,
+};
 
 // The packets of these messages, from a sequence id on.
 fn packets(rt: &impl Abort, alloc: Global, first: u8, messages: &[&[u8]]) -> Result<Bytes, Fail> {
@@ -63,22 +117,33 @@ fn packets(rt: &impl Abort, alloc: Global, first: u8, messages: &[&[u8]]) -> Res
     Ok(Bytes::of(alloc, out.as_slice())?)
 }
 
-// A conversation with this answer to the login, these columns and these rows.
+// Adds the packets of these messages to a conversation.
+fn say(
+    rt: &impl Abort,
+    alloc: Global,
+    talk: &mut Conversation,
+    first: u8,
+    messages: &[&[u8]],
+) -> Result<(), Fail> {
+    talk.push(packets(rt, alloc, first, messages)?)?;
+    Ok(())
+}
+
+// A conversation with this answer to the login, and these rows.
 fn conversation(
     rt: &impl Abort,
     alloc: Global,
     login: &[u8],
-    columns: &[&[u8]],
     rows: &[&[u8]],
 ) -> Result<Conversation, Fail> {
-    let mut made = MessageList::new(alloc);
-    made.push(packets(rt, alloc, 0, &[GREETING])?)?;
-    made.push(packets(rt, alloc, 2, &[login])?)?;
-    made.push(packets(rt, alloc, 1, &[OK])?)?;
-    made.push(packets(rt, alloc, 1, &[OK])?)?;
-    made.push(packets(rt, alloc, 1, columns)?)?;
-    made.push(packets(rt, alloc, 1, rows)?)?;
-    Ok(made)
+    let mut talk = Conversation::new(alloc);
+    say(rt, alloc, &mut talk, 0, &[GREETING])?;
+    say(rt, alloc, &mut talk, 2, &[login])?;
+    say(rt, alloc, &mut talk, 1, &[OK])?;
+    say(rt, alloc, &mut talk, 1, &[OK])?;
+    say(rt, alloc, &mut talk, 1, &COLUMNS)?;
+    say(rt, alloc, &mut talk, 1, rows)?;
+    Ok(talk)
 }
 
 fn words_of(alloc: Global, texts: &[&str]) -> Result<NameList, Fail> {
@@ -97,28 +162,7 @@ fn numbers_of(alloc: Global, numbers: &[u64]) -> Result<NumberList, Fail> {
     Ok(made)
 }
 
-const WORDS: [&str; 8] = ["-u", "u", "-B", "s", "-T", "t", "-o", "out"];
-
-// A run over one conversation, whose calls fail at these numbers.
-fn run<R: Threads + Sync>(
-    rt: &R,
-    alloc: Global,
-    words: &[&str],
-    site: &mut ReplySite,
-    folder: &mut MemoryFolder,
-) -> Result<u8, Fail>
-    requires no_link_out { site.old.out ≡ 0 }
-    requires no_shelf_out { folder.old.out ≡ 0 }
-
-    ensures no_link_out { IfOk result (λ _. site.new.out ≡ 0) }
-    ensures no_shelf_out { IfOk result (λ _. folder.new.out ≡ 0) }
-{
-    let words = words_of(alloc, words)?;
-    let mut err = MemorySink::new(alloc, NumberList::new(alloc));
-    let mut clock = ListClock::new(NumberList::new(alloc), NumberList::new(alloc));
-    Ok(mydumper(rt, alloc, &words, site, folder, &mut err, &mut clock))
-}
-
+// A site with this conversation alone.
 fn site_of(alloc: Global, talk: Conversation, faults: &[u64], cut: u32) -> Result<ReplySite, Fail>
     ensures { IfOk result (λ site. site.out ≡ 0) }
 {
@@ -127,249 +171,215 @@ fn site_of(alloc: Global, talk: Conversation, faults: &[u64], cut: u32) -> Resul
     Ok(ReplySite::new(alloc, talks, numbers_of(alloc, faults)?, cut))
 }
 
-#[test]
-fn a_table_of_two_rows_is_dumped_however_the_bytes_are_cut(rt: HostRuntime) -> Result<(), Fail> {
-    let alloc = rt.alloc();
-    for cut in [0, 1, 3, 7] {
-        let talk = conversation(&rt, alloc, OK, &COLUMNS, &ROWS)?;
-        let mut site = site_of(alloc, talk, &[], cut)?;
-        let mut folder = MemoryFolder::new(alloc, NumberList::new(alloc));
-        assert_eq!(rt;
-            run(&rt, alloc, &WORDS, &mut site, &mut folder)?,
-            0,
-            "cut {cut}"
-        );
-        assert_eq!(rt; folder.file("s.t.00000.sql").ok_or("no file")?, FILE);
-        assert!(rt; site.has_returned(0));
-        let sent = site.sent(0).as_slice();
-        assert_eq!(rt; sent.len(), 6);
-        assert_eq!(rt;
-            sent[0].as_slice(),
-            b"\x39\x00\x00\x01\x05\xa2\x08\x00\x00\x00\x00\x04\x2d\x00\x00\x00\x00\x00\x00\x00\x00\x00\x00\x00\x00\x00\x00\x00\x00\x00\x00\x00\x00\x00\x00\x00u\x00\x00mysql_native_password\x00".as_slice()
-        );
-        assert_eq!(rt;
-            sent[2].as_slice(),
-            b"\x11\x00\x00\x00\x03SET NAMES binary".as_slice()
-        );
-        assert_eq!(rt;
-            sent[4].as_slice(),
-            b"\x1d\x00\x00\x00\x03SELECT `id`,`a` FROM `s`.`t`".as_slice()
-        );
-        assert_eq!(rt; sent[5].as_slice(), b"\x01\x00\x00\x00\x01".as_slice());
-    }
-    Ok(())
-}
-
-// A run with these words, answer to the login and rows, this file in the folder, and failing calls;
-// then the status that is wanted, and how many messages were sent on a link that came back.
-#[derive(Clone, Copy)]
-struct Case<'a> {
-    name: &'a str,
-    words: &'a [&'a str],
-    login: &'a [u8],
-    rows: &'a [&'a [u8]],
-    listed: Option<&'a str>,
-    faults: &'a [u64],
-    status: u8,
-    sent: Option<usize>,
-}
-
-// A run of two rows that meets nothing in its way.
-const PLAIN: Case<'static> = Case {
-    name: "two rows",
-    words: &WORDS,
-    login: OK,
-    rows: &ROWS,
-    listed: None,
-    faults: &[],
-    status: 0,
-    sent: Some(6),
-};
-
-// Runs a case that isn't to leave a file.
-fn check<R: Abort + Threads + Sync>(rt: &R, alloc: Global, case: Case<'_>) -> Result<(), Fail> {
-    let name = case.name;
-    let talk = conversation(rt, alloc, case.login, &COLUMNS, case.rows)?;
-    let mut site = site_of(alloc, talk, case.faults, 0)?;
+// A folder with this file, or with none.
+fn folder_of(alloc: Global, listed: Option<&str>) -> Result<MemoryFolder, Fail>
+    ensures { IfOk result (λ folder. folder.out ≡ 0) }
+{
     let mut folder = MemoryFolder::new(alloc, NumberList::new(alloc));
-    if let Some(file) = case.listed {
+    if let Some(file) = listed {
         folder.put(file, b"kept")?;
     }
-    let status = run(rt, alloc, case.words, &mut site, &mut folder)?;
-    assert_eq!(rt; status, case.status, "{name}");
-    assert!(rt; folder.file("s.t.00000.sql").is_none(), "{name}");
-    assert_eq!(rt; site.has_returned(0), case.sent.is_some(), "{name}");
-    if site.has_returned(0) {
-        assert_eq!(rt; Some(site.sent(0).as_slice().len()), case.sent, "{name}");
+    Ok(folder)
+}
+
+// The status of a dump.
+fn status_of<R: Threads + Sync>(
+    rt: &R,
+    alloc: Global,
+    words: &NameList,
+    site: &mut ReplySite,
+    folder: &mut MemoryFolder,
+) -> u8
+    requires no_link_out { site.old.out ≡ 0 }
+    requires no_shelf_out { folder.old.out ≡ 0 }
+{
+    let mut err = MemorySink::new(alloc, NumberList::new(alloc));
+    let mut clock = ListClock::new(NumberList::new(alloc), NumberList::new(alloc));
+    mydumper(rt, alloc, words, site, folder, &mut err, &mut clock)
+}
+
+// What a run left.
+#[derive(Drop)]
+struct Ended {
+    status: u8,
+    site: ReplySite,
+    folder: MemoryFolder,
+}
+
+fn run<R: Abort + Threads + Sync>(rt: &R, alloc: Global, case: &Case<'_>) -> Result<Ended, Fail> {
+    let words = words_of(alloc, case.words)?;
+    let talk = conversation(rt, alloc, case.login, case.rows)?;
+    let mut site = site_of(alloc, talk, case.faults, case.cut)?;
+    let mut folder = folder_of(alloc, case.listed)?;
+    let status = status_of(rt, alloc, &words, &mut site, &mut folder);
+    Ok(Ended {
+        status,
+        site,
+        folder,
+    })
+}
+
+impl Ended {
+    // How many messages were sent, if the link came back.
+    fn sent(&self) -> Option<usize> {
+        if self.site.has_returned(0) {
+            Some(self.site.sent(0).as_slice().len())
+        } else {
+            None
+        }
+    }
+
+    // Whether the message of this number is this one.
+    fn has_said(&self, number: usize, message: &[u8]) -> bool {
+        self.site.has_returned(0) && is_at(self.site.sent(0).as_slice(), number, message)
+    }
+
+    // Whether the data file has these bytes, or isn't there.
+    fn has_file(&self, bytes: Option<&[u8]>) -> bool {
+        match self.folder.file("s.t.00000.sql") {
+            Some(found) => bytes.is_some_and(|bytes| found == bytes),
+            None => bytes.is_none(),
+        }
+    }
+}
+
+fn is_at(messages: &[Bytes], number: usize, message: &[u8]) -> bool {
+    number < messages.len() && messages[number].as_slice() == message
+}
+
+// Runs a case. `sent` is how many messages were sent on a link that came back, and `file` the data
+// file.
+fn check<R: Abort + Threads + Sync>(
+    rt: &R,
+    alloc: Global,
+    case: &Case<'_>,
+    status: u8,
+    sent: Option<usize>,
+    file: Option<&[u8]>,
+) -> Result<(), Fail> {
+    let ended = run(rt, alloc, case)?;
+    assert_eq!(rt; ended.status, status);
+    assert_eq!(rt; ended.sent(), sent);
+    assert!(rt; ended.has_file(file));
+    Ok(())
+}
+
+#[test]
+fn a_table_of_two_rows_is_dumped_however_the_bytes_are_cut(rt: HostRuntime) -> Result<(), Fail> {
+    for cut in [0, 1, 3, 7] {
+        let case = Case { cut, ..PLAIN };
+        check(&rt, rt.alloc(), &case, 0, Some(6), Some(FILE))?;
     }
     Ok(())
 }
 
-const REFUSED: &[u8] = b"\xff\x15\x04#28000no";
-
-const NOT_A_NUMBER: [&[u8]; 6] = [b"\x02", DEFINITION, DEFINITION, EOF, b"\x01x\x01a", EOF];
-
-const A_CELL_MORE: [&[u8]; 6] = [
-    b"\x02",
-    DEFINITION,
-    DEFINITION,
-    EOF,
-    b"\x011\x01a\x01b",
-    EOF,
-];
-
-const ERR_BEHIND_A_ROW: [&[u8]; 6] = [b"\x02", DEFINITION, DEFINITION, EOF, b"\x011\x01a", REFUSED];
-
-const SWITCH: &[u8] = b"\xfemysql_native_password\x00abcdefghijklmnopqrst\x00";
-
 #[test]
-fn an_err_is_status_3(rt: HostRuntime) -> Result<(), Fail> {
-    let alloc = rt.alloc();
-    check(
-        &rt,
-        alloc,
-        Case {
-            name: "in answer to the login",
-            login: REFUSED,
-            status: 3,
-            sent: Some(1),
-            ..PLAIN
-        },
-    )?;
-    check(
-        &rt,
-        alloc,
-        Case {
-            name: "behind a row",
-            rows: &ERR_BEHIND_A_ROW,
-            status: 3,
-            sent: Some(5),
-            ..PLAIN
-        },
-    )
+fn the_messages_are_the_same_however_the_bytes_are_cut(rt: HostRuntime) -> Result<(), Fail> {
+    for cut in [0, 1, 3, 7] {
+        let ended = run(&rt, rt.alloc(), &Case { cut, ..PLAIN })?;
+        assert!(rt; ended.has_said(0, LOGIN));
+        assert!(rt; ended.has_said(2, SET_NAMES));
+        assert!(rt; ended.has_said(4, QUERY));
+        assert!(rt; ended.has_said(5, GOODBYE));
+    }
+    Ok(())
 }
 
 #[test]
-fn other_words_are_status_2(rt: HostRuntime) -> Result<(), Fail> {
-    let seven = ["-u", "u", "-B", "s", "-T", "t", "-o"];
-    check(
-        &rt,
-        rt.alloc(),
-        Case {
-            name: "seven words",
-            words: &seven,
-            status: 2,
-            sent: None,
-            ..PLAIN
-        },
-    )
+fn an_err_in_answer_to_the_login_is_status_3(rt: HostRuntime) -> Result<(), Fail> {
+    let case = Case {
+        login: REFUSED,
+        ..PLAIN
+    };
+    check(&rt, rt.alloc(), &case, 3, Some(1), None)
+}
+
+#[test]
+fn an_err_behind_a_row_is_status_3(rt: HostRuntime) -> Result<(), Fail> {
+    let case = Case {
+        rows: &ERR_BEHIND_A_ROW,
+        ..PLAIN
+    };
+    check(&rt, rt.alloc(), &case, 3, Some(5), None)
+}
+
+#[test]
+fn seven_words_are_status_2(rt: HostRuntime) -> Result<(), Fail> {
+    let case = Case {
+        words: &SEVEN_WORDS,
+        ..PLAIN
+    };
+    check(&rt, rt.alloc(), &case, 2, None, None)
 }
 
 #[test]
 fn a_folder_that_is_not_empty_is_status_1_and_nothing_is_sent(rt: HostRuntime) -> Result<(), Fail> {
-    check(
-        &rt,
-        rt.alloc(),
-        Case {
-            name: "keep.txt",
-            listed: Some("keep.txt"),
-            status: 1,
-            sent: None,
-            ..PLAIN
-        },
-    )
+    let case = Case {
+        listed: Some("keep.txt"),
+        ..PLAIN
+    };
+    check(&rt, rt.alloc(), &case, 1, None, None)
 }
 
 #[test]
-fn a_failing_link_is_status_4(rt: HostRuntime) -> Result<(), Fail> {
-    let alloc = rt.alloc();
-    check(
-        &rt,
-        alloc,
-        Case {
-            name: "inside the second row",
-            faults: &[43],
-            status: 4,
-            sent: Some(5),
-            ..PLAIN
-        },
-    )?;
-    check(
-        &rt,
-        alloc,
-        Case {
-            name: "at connecting",
-            faults: &[0],
-            status: 4,
-            sent: None,
-            ..PLAIN
-        },
-    )
+fn a_link_that_fails_inside_a_row_is_status_4(rt: HostRuntime) -> Result<(), Fail> {
+    let case = Case {
+        faults: &[43],
+        ..PLAIN
+    };
+    check(&rt, rt.alloc(), &case, 4, Some(5), None)
 }
 
 #[test]
-fn what_is_not_read_is_status_1(rt: HostRuntime) -> Result<(), Fail> {
-    let alloc = rt.alloc();
-    check(
-        &rt,
-        alloc,
-        Case {
-            name: "a cell that is no number",
-            rows: &NOT_A_NUMBER,
-            status: 1,
-            sent: Some(5),
-            ..PLAIN
-        },
-    )?;
-    check(
-        &rt,
-        alloc,
-        Case {
-            name: "a cell more than columns",
-            rows: &A_CELL_MORE,
-            status: 1,
-            sent: Some(5),
-            ..PLAIN
-        },
-    )?;
-    check(
-        &rt,
-        alloc,
-        Case {
-            name: "a switch of the plugin",
-            login: SWITCH,
-            status: 1,
-            sent: Some(1),
-            ..PLAIN
-        },
-    )
+fn a_link_that_fails_at_connecting_is_status_4(rt: HostRuntime) -> Result<(), Fail> {
+    let case = Case {
+        faults: &[0],
+        ..PLAIN
+    };
+    check(&rt, rt.alloc(), &case, 4, None, None)
 }
 
 #[test]
-fn a_table_without_rows_has_no_file_and_a_failing_goodbye_changes_nothing(
-    rt: HostRuntime,
-) -> Result<(), Fail> {
-    let alloc = rt.alloc();
-    let none: [&[u8]; 5] = [b"\x02", DEFINITION, DEFINITION, EOF, EOF];
-    let mut site = site_of(
-        alloc,
-        conversation(&rt, alloc, OK, &COLUMNS, &none)?,
-        &[],
-        0,
-    )?;
-    let mut folder = MemoryFolder::new(alloc, NumberList::new(alloc));
-    assert_eq!(rt; run(&rt, alloc, &WORDS, &mut site, &mut folder)?, 0);
-    assert!(rt; folder.file("s.t.00000.sql").is_none());
-    let mut site = site_of(
-        alloc,
-        conversation(&rt, alloc, OK, &COLUMNS, &ROWS)?,
-        &[46],
-        0,
-    )?;
-    let mut folder = MemoryFolder::new(alloc, NumberList::new(alloc));
-    assert_eq!(rt; run(&rt, alloc, &WORDS, &mut site, &mut folder)?, 0);
-    assert_eq!(rt; folder.file("s.t.00000.sql").ok_or("no file")?, FILE);
-    assert!(rt; site.has_returned(0));
-    assert_eq!(rt; site.sent(0).as_slice().len(), 5);
-    Ok(())
+fn a_cell_that_is_no_number_is_status_1(rt: HostRuntime) -> Result<(), Fail> {
+    let case = Case {
+        rows: &NOT_A_NUMBER,
+        ..PLAIN
+    };
+    check(&rt, rt.alloc(), &case, 1, Some(5), None)
+}
+
+#[test]
+fn a_cell_more_than_columns_is_status_1(rt: HostRuntime) -> Result<(), Fail> {
+    let case = Case {
+        rows: &A_CELL_MORE,
+        ..PLAIN
+    };
+    check(&rt, rt.alloc(), &case, 1, Some(5), None)
+}
+
+#[test]
+fn a_switch_of_the_plugin_is_status_1(rt: HostRuntime) -> Result<(), Fail> {
+    let case = Case {
+        login: SWITCH,
+        ..PLAIN
+    };
+    check(&rt, rt.alloc(), &case, 1, Some(1), None)
+}
+
+#[test]
+fn a_table_without_rows_has_no_file(rt: HostRuntime) -> Result<(), Fail> {
+    let case = Case {
+        rows: &NO_ROWS,
+        ..PLAIN
+    };
+    check(&rt, rt.alloc(), &case, 0, Some(6), None)
+}
+
+#[test]
+fn a_failing_goodbye_changes_nothing(rt: HostRuntime) -> Result<(), Fail> {
+    let case = Case {
+        faults: &[46],
+        ..PLAIN
+    };
+    check(&rt, rt.alloc(), &case, 0, Some(5), Some(FILE))
 }
