@@ -1,0 +1,12 @@
+pub mod Cuts
+pub mod Places
+pub mod Rows
+pub mod Choices
+pub mod Repeats
+pub mod Empty
+pub mod Sets
+pub mod Leaves
+pub mod Onward
+pub mod Wholes
+pub mod Skips
+pub mod Determined
