@@ -1,108 +1,99 @@
 -- The test of numbers and their grammar are the same.
-use Rattle.std.proofs.Common.{◌≡◌, ◌==◌, ◌&&◌, ◌⊎◌, inl, inr, ℕ, ◌+◌, ◌<◌, ◌≤◌, true, false, Bool, List, [], ◌∷◌, ◌++◌, length, take, drop, refl, sym, ap, ◌∙◌, arith, cond, eqb, ltb}
-use Rattle.std.specs.List.{prefix_len, list_all}
+use Rattle.std.proofs.Common.{◌≡◌, ◌==◌, ◌&&◌, inl, inr, ℕ, zero, suc, true, false, Bool, List, [], ◌∷◌, ◌++◌, refl, ap, ◌∙◌, arith, cond}
+use Rattle.std.specs.List.{list_all}
+use Rattle.std.proofs.lemmas.Bool.{and_parts}
 use Rattle.std.proofs.lemmas.Bool.Decides.{nat_tests}
-use Rattle.std.proofs.lemmas.List.{take-append-drop, get_or-take}
-use Rattle.std.proofs.lemmas.List.Folds.{length-prefix_len, prefix_len-append}
-use Rattle.std.proofs.lemmas.List.Sums.{AllPass-from_list_all, list_all-from_AllPass, prefix_len_passes}
-use Rattle.std.proofs.Math.Seq.{drop-append_seam}
-use Rattle.sql_literals.specs.Number.{is_digit, is_digits, is_fraction, is_unsigned_behind, is_number, IsDigits, IsFraction, IsNumber}
-use Rattle.sql_literals.proofs.Numbers.{all_by_count, unsigned_by_count}
+use Rattle.grammar.specs.Language.{Nothing, Fixed, One, Then, Or, Times, Many}
+use Rattle.sql_literals.specs.Number.{is_digit, is_digits, is_fraction, is_unsigned_behind, is_number, Digits, Sign, Point, Fraction, Number}
 
-both : (a b : Bool) → (a && b) ≡ true → (a ≡ true) × (b ≡ true)
-both true b h = (refl, h)
-both false b h = (h, absurd (cc))
+more_digits : (x : ℕ) (xs : List ℕ) → is_digit x ≡ true → Many (One is_digit) xs → Many (One is_digit) (x ∷ xs)
+unfolding Many Times Then One
+more_digits x xs digit (n, digits) = (suc n, (x ∷ [], xs, refl, (x, refl, digit), digits))
 
-digit_holds : (byte : ℕ) → is_digit byte ≡ true → (48 ≤ byte) × (byte ≤ 57)
-digit_holds byte h = grind (arith, nat_tests)
+first_digit : (x : ℕ) (xs : List ℕ) → is_digit x ≡ true → Many (One is_digit) xs → Digits (x ∷ xs)
+unfolding Digits Then One
+first_digit x xs digit digits = (x ∷ [], xs, refl, (x, refl, digit), digits)
 
-digit_passes : (byte : ℕ) → (48 ≤ byte) × (byte ≤ 57) → is_digit byte ≡ true
-digit_passes byte h = grind (arith, nat_tests)
+many_hold : (xs : List ℕ) → list_all is_digit xs ≡ true → Many (One is_digit) xs
+unfolding Many Times Nothing
+many_hold [] h = (0, refl)
+many_hold (x ∷ xs) h = let parts = and_parts (is_digit x) (list_all is_digit xs) h in more_digits x xs parts.0 (many_hold xs parts.1)
 
-digits_hold : (xs : List ℕ) → is_digits xs ≡ true → IsDigits xs
+many_pass : (n : ℕ) (xs : List ℕ) → Times (One is_digit) n xs → list_all is_digit xs ≡ true
+unfolding Times Nothing Then One
+many_pass zero xs none = ap (list_all is_digit) none
+many_pass (suc n) xs (a, b, are, (x, is, digit), digits) =
+    ap (list_all is_digit) (are ∙ ap (λ t. t ++ b) is) ∙ ap (λ t. t && list_all is_digit b) digit ∙ many_pass n b digits
+
+pub digits_hold : (xs : List ℕ) → is_digits xs ≡ true → Digits xs
 digits_hold [] h = absurd (cc)
-digits_hold (x ∷ xs) h =
-    record { some = omega arith; each = λ k d within. digit_holds _ (AllPass-from_list_all is_digit (x ∷ xs) h k d within) }
+digits_hold (x ∷ xs) h = let parts = and_parts (is_digit x) (list_all is_digit xs) h in first_digit x xs parts.0 (many_hold xs parts.1)
 
-digits_pass : (xs : List ℕ) → IsDigits xs → is_digits xs ≡ true
-digits_pass [] h = absurd (omega (arith, h.some))
-digits_pass (x ∷ xs) h = list_all-from_AllPass is_digit (x ∷ xs) (λ k d within. digit_passes _ (h.each k d within))
-
-fraction_holds : (xs : List ℕ) → is_fraction xs ≡ true → IsFraction xs
-fraction_holds [] h = inl refl
+fraction_holds : (xs : List ℕ) → is_fraction xs ≡ true → Fraction xs
+unfolding Fraction Or Nothing Point Then Fixed
+fraction_holds [] h = inr refl
 fraction_holds (x ∷ xs) h =
-    let parts = both (x == 46) (is_digits xs) h in
+    let parts = and_parts (x == 46) (is_digits xs) h in
     let point : x ≡ 46 = grind (arith, nat_tests, parts.0) in
-    inr (xs, ap (λ byte. byte ∷ xs) point, digits_hold xs parts.1)
+    inl (46 ∷ [], xs, ap (λ byte. byte ∷ xs) point, refl, digits_hold xs parts.1)
 
-fraction_passes : (xs : List ℕ) → IsFraction xs → is_fraction xs ≡ true
-fraction_passes xs (inl none) = ap is_fraction none
-fraction_passes xs (inr (behind, are, digits)) = ap is_fraction are ∙ digits_pass behind digits
+pub digits_pass : (xs : List ℕ) → Digits xs → is_digits xs ≡ true
+unfolding Digits Then One Many
+digits_pass xs (a, b, are, (x, is, digit), (n, digits)) =
+    ap is_digits (are ∙ ap (λ t. t ++ b) is) ∙ ap (λ t. t && list_all is_digit b) digit ∙ many_pass n b digits
 
-no_digit : (xs : List ℕ) → IsFraction xs → prefix_len is_digit xs ≡ 0
-no_digit xs (inl none) = ap (prefix_len is_digit) none
-no_digit xs (inr (behind, are, digits)) = ap (prefix_len is_digit) are
+-- behind a digit the rest is digits and maybe a fraction
 
--- an unsigned number begins with its digits
-unsigned_holds : (xs : List ℕ) → is_unsigned_behind false xs ≡ true → (whole fraction : List ℕ) × (xs ≡ whole ++ fraction) × IsDigits whole × IsFraction fraction
-unsigned_holds xs h =
-    let n : ℕ = prefix_len is_digit xs in
-    let parts = both (ltb 0 n) (is_fraction (drop n xs)) (sym (unsigned_by_count xs) ∙ h) in
-    let some : 0 < n = grind (arith, nat_tests, parts.0) in
-    let long : length (take n xs) ≡ n = length-prefix_len is_digit xs in (
-      take n xs,
-      drop n xs,
-      sym (take-append-drop n xs),
-      record { some = omega arith; each = λ k d within. rw (get_or-take n xs k d (omega arith)) (digit_holds _ (prefix_len_passes is_digit xs k d (omega arith))) },
-      fraction_holds (drop n xs) parts.1,
-    )
+behind_holds : (xs : List ℕ) → is_unsigned_behind true xs ≡ true → Then (Many (One is_digit)) Fraction xs
+unfolding Then Many Times Nothing Fraction Or
+behind_holds [] h = ([], [], refl, (0, refl), inr refl)
+behind_holds (x ∷ xs) h = first (is_digit x) refl h (λ h. behind_holds xs h) where
+  first : (digit : Bool) → is_digit x ≡ digit → cond digit (is_unsigned_behind true xs) (is_fraction (x ∷ xs)) ≡ true → (is_unsigned_behind true xs ≡ true → Then (Many (One is_digit)) Fraction xs) → Then (Many (One is_digit)) Fraction (x ∷ xs)
+  first true digit h more = let rest = more h in (x ∷ rest.0, rest.1, ap (λ t. x ∷ t) rest.2, more_digits x rest.0 digit rest.3, rest.4)
+  first false digit h more = ([], x ∷ xs, refl, (0, refl), fraction_holds (x ∷ xs) h)
 
-whole_is_prefix : (xs : List ℕ) → IsDigits xs → prefix_len is_digit xs ≡ length xs
-whole_is_prefix xs digits =
-    let all : list_all is_digit xs ≡ true = list_all-from_AllPass is_digit xs (λ k d within. digit_passes _ (digits.each k d within)) in
-    let same : eqb (prefix_len is_digit xs) (length xs) ≡ true = sym (all_by_count xs) ∙ all in
-    grind (arith, nat_tests, same)
+unsigned_holds : (xs : List ℕ) → is_unsigned_behind false xs ≡ true → Then Digits Fraction xs
+unfolding Then
+unsigned_holds [] h = absurd (cc)
+unsigned_holds (x ∷ xs) h = first (is_digit x) refl h where
+  first : (digit : Bool) → is_digit x ≡ digit → cond digit (is_unsigned_behind true xs) false ≡ true → Then Digits Fraction (x ∷ xs)
+  first true digit h = let rest = behind_holds xs h in (x ∷ rest.0, rest.1, ap (λ t. x ∷ t) rest.2, first_digit x rest.0 digit rest.3, rest.4)
+  first false digit h = absurd (cc)
 
-unsigned_passes : (whole fraction : List ℕ) → IsDigits whole → IsFraction fraction → is_unsigned_behind false (whole ++ fraction) ≡ true
-unsigned_passes whole fraction digits fractional =
-    let all : prefix_len is_digit whole ≡ length whole = whole_is_prefix whole digits in
-    let same : eqb (prefix_len is_digit whole) (length whole) ≡ true = grind (arith, nat_tests) in
-    let none : prefix_len is_digit fraction ≡ 0 = no_digit fraction fractional in
-    let n : prefix_len is_digit (whole ++ fraction) ≡ length whole =
-    prefix_len-append is_digit whole fraction ∙ ap (λ t. cond t (length whole + prefix_len is_digit fraction) (prefix_len is_digit whole)) same ∙ omega arith in
-    let some : ltb 0 (length whole) ≡ true = grind (arith, nat_tests, digits.some) in
-    unsigned_by_count (whole ++ fraction)
-    ∙ ap (λ k. ltb 0 k && is_fraction (drop k (whole ++ fraction))) n
-    ∙ ap (λ t. t && is_fraction (drop (length whole) (whole ++ fraction))) some
-    ∙ ap is_fraction (drop-append_seam whole fraction)
-    ∙ fraction_passes fraction fractional
+fraction_passes : (xs : List ℕ) → Fraction xs → is_unsigned_behind true xs ≡ true
+unfolding Fraction Or Point Then Fixed Nothing
+fraction_passes xs (inl (a, b, are, is, digits)) = ap (is_unsigned_behind true) (are ∙ ap (λ t. t ++ b) is) ∙ digits_pass b digits
+fraction_passes xs (inr none) = ap (is_unsigned_behind true) none
 
-signed_holds : (x : ℕ) (xs : List ℕ) (minus : Bool) → (x == 45) ≡ minus → cond minus (is_unsigned_behind false xs) (is_unsigned_behind false (x ∷ xs)) ≡ true → IsNumber (x ∷ xs)
-signed_holds x xs true is h =
-    let parts = unsigned_holds xs h in
-    let point : x ≡ 45 = grind (arith, nat_tests) in
-    record { sign = 45 ∷ []; whole = parts.0; fraction = parts.1; parts = cc; signed = inr refl; digits = parts.3; fractional = parts.4 }
-signed_holds x xs false is h =
-    let parts = unsigned_holds (x ∷ xs) h in
-    record { sign = []; whole = parts.0; fraction = parts.1; parts = parts.2; signed = inl refl; digits = parts.3; fractional = parts.4 }
+behind_passes : (n : ℕ) (a b : List ℕ) → Times (One is_digit) n a → Fraction b → is_unsigned_behind true (a ++ b) ≡ true
+unfolding Times Nothing Then One
+behind_passes zero a b none fraction = ap (λ t. is_unsigned_behind true (t ++ b)) none ∙ fraction_passes b fraction
+behind_passes (suc n) a b (c, d, are, (x, is, digit), digits) fraction =
+    ap (λ t. is_unsigned_behind true (t ++ b)) (are ∙ ap (λ t. t ++ d) is) ∙ rw digit (behind_passes n d b digits fraction)
 
-pub number_holds : (bytes : List ℕ) → is_number bytes ≡ true → IsNumber bytes
+unsigned_passes : (a b : List ℕ) → Digits a → Fraction b → (x : ℕ) × (xs : List ℕ) × (a ++ b ≡ x ∷ xs) × (is_digit x ≡ true) × (is_unsigned_behind false (x ∷ xs) ≡ true)
+unfolding Digits Then One Many
+unsigned_passes a b (c, d, are, (x, is, digit), (n, digits)) fraction =
+    (x, d ++ b, ap (λ t. t ++ b) (are ∙ ap (λ t. t ++ d) is), digit, rw digit (behind_passes n d b digits fraction))
+
+pub number_holds : (bytes : List ℕ) → is_number bytes ≡ true → Number bytes
+unfolding Number Then Sign Or Nothing Fixed
 number_holds [] h = absurd (cc)
-number_holds (x ∷ xs) h = signed_holds x xs (x == 45) refl h
+number_holds (x ∷ xs) h = first (x == 45) refl h where
+  first : (minus : Bool) → (x == 45) ≡ minus → cond minus (is_unsigned_behind false xs) (is_unsigned_behind false (x ∷ xs)) ≡ true → Number (x ∷ xs)
+  first true is h =
+      let parts = unsigned_holds xs h in
+      let point : x ≡ 45 = grind (arith, nat_tests) in
+      (45 ∷ parts.0, parts.1, ap (λ byte. byte ∷ xs) point ∙ ap (λ t. 45 ∷ t) parts.2, (45 ∷ [], parts.0, refl, inl refl, parts.3), parts.4)
+  first false is h = let parts = unsigned_holds (x ∷ xs) h in (parts.0, parts.1, parts.2, ([], parts.0, refl, inr refl, parts.3), parts.4)
 
-no_sign_passes : (whole fraction : List ℕ) → IsDigits whole → IsFraction fraction → is_number (whole ++ fraction) ≡ true
-no_sign_passes [] fraction digits fractional = absurd (omega (arith, digits.some))
-no_sign_passes (x ∷ xs) fraction digits fractional =
-    let digit : (48 ≤ x) × (x ≤ 57) = digits.each 0 0 (omega arith) in
-    let other : (x == 45) ≡ false = grind (arith, nat_tests) in
-    rw other (unsigned_passes (x ∷ xs) fraction digits fractional)
-
-sign_passes : (sign whole fraction : List ℕ) → (sign ≡ []) ⊎ (sign ≡ 45 ∷ []) → IsDigits whole → IsFraction fraction → is_number (sign ++ whole ++ fraction) ≡ true
-sign_passes sign whole fraction (inl none) digits fractional =
-    ap (λ s. is_number (s ++ whole ++ fraction)) none ∙ no_sign_passes whole fraction digits fractional
-sign_passes sign whole fraction (inr minus) digits fractional =
-    ap (λ s. is_number (s ++ whole ++ fraction)) minus ∙ unsigned_passes whole fraction digits fractional
-
-pub number_passes : (bytes : List ℕ) → IsNumber bytes → is_number bytes ≡ true
-number_passes bytes n =
-    ap is_number n.parts ∙ sign_passes n.sign n.whole n.fraction n.signed n.digits n.fractional
+pub number_passes : (bytes : List ℕ) → Number bytes → is_number bytes ≡ true
+unfolding Number Then Sign Or Nothing Fixed
+number_passes bytes (a, b, are, (c, d, parts, sign, digits), fraction) =
+    let unsigned = unsigned_passes d b digits fraction in
+    elim sign [
+      | inl minus ↦ ap is_number (are ∙ ap (λ t. t ++ b) (parts ∙ ap (λ t. t ++ d) minus)) ∙ ap (is_unsigned_behind false) unsigned.2 ∙ unsigned.4
+      | inr none ↦
+          let other : (unsigned.0 == 45) ≡ false = grind (arith, nat_tests, unsigned.3) in
+          ap is_number (are ∙ ap (λ t. t ++ b) (parts ∙ ap (λ t. t ++ d) none) ∙ unsigned.2) ∙ rw other unsigned.4
+    ]

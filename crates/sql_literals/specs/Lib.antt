@@ -3,3 +3,4 @@ pub mod Literal
 pub mod Name
 pub mod Number
 pub mod Runs
+pub mod Spelling

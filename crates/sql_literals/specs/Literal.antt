@@ -1,9 +1,10 @@
--- Literals of SQL (MySQL 8.0 Reference Manual, 11.1.1 "String Literals", 11.1.2 "Numeric Literals", 11.1.7 "NULL Values").
+-- Literals of SQL as they are written (MySQL 8.0 Reference Manual, 11.1.1 "String Literals", 11.1.2 "Numeric Literals", 11.1.4 "Hexadecimal Literals", 11.1.7 "NULL Values").
 use Rattle.std.specs.Prelude.{ℕ, ◌==◌, ◌||◌, if◌then◌else◌, Bool, true, List, [], ◌∷◌, ◌++◌, Option, Some, None, codes}
 use Rattle.std.specs.List.{flat_map}
+use Rattle.hex.specs.Hex.{encode_upper}
 use Rattle.sql_literals.specs.Number.{is_number}
 use Rattle.sql_literals.specs.declared.literal.CellKind.{CellKind}
-use Rattle.sql_literals.specs.declared.literal.CellKind.TheVariants.{Number, Text}
+use Rattle.sql_literals.specs.declared.literal.CellKind.TheVariants.{Number, Text, Hex}
 
 -- a cell of a row: NULL, or its bytes
 abbrev pub Cell : Type 0
@@ -24,14 +25,20 @@ escaped_byte byte = if is_special byte then 92 ∷ letter_of byte ∷ [] else by
 abbrev pub quoted : List ℕ → List ℕ
 quoted bytes = 39 ∷ flat_map escaped_byte bytes ++ 39 ∷ []
 
+-- two upper-case digits for each byte, between X' and a quote
+abbrev pub hexadecimal : List ℕ → List ℕ
+hexadecimal bytes = 88 ∷ 39 ∷ encode_upper bytes ++ 39 ∷ []
+
 -- the literal of a cell
 abbrev pub literal : CellKind → Cell → List ℕ
 literal kind None = codes "NULL"
 literal Number (Some bytes) = bytes
 literal Text (Some bytes) = quoted bytes
+literal Hex (Some bytes) = hexadecimal bytes
 
 -- whether the cell has a literal of that kind: a number has to be one
 abbrev pub has_literal : CellKind → Cell → Bool
 has_literal kind None = true
 has_literal Number (Some bytes) = is_number bytes
 has_literal Text (Some bytes) = true
+has_literal Hex (Some bytes) = true

@@ -4,6 +4,7 @@
 
 mod buffer;
 mod bytes;
+mod hexadecimal;
 mod laws;
 mod literal;
 mod name;

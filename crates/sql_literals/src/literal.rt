@@ -3,6 +3,7 @@ ghost use Rattle.std.specs.Prelude.{◌≡◌, ◌↔◌, ◌+◌, ◌≤◌, �
 ghost use Rattle.sql_literals.specs.Literal.{literal, has_literal};
 
 use crate::buffer::Buffer;
+use crate::hexadecimal::{hexadecimal_into, hexadecimal_length};
 use crate::number::is_number;
 use crate::text::{text_into, text_length};
 use plain_data::OutOfMemory;
@@ -15,6 +16,8 @@ pub enum CellKind {
     Number,
     /// As text between single quotes.
     Text,
+    /// As hexadecimal digits between X' and a quote.
+    Hex,
 }
 
 /// A cell of a numeric column isn't a number.
@@ -51,6 +54,7 @@ pub fn cell_length(kind: CellKind, cell: Option<&[u8]>) -> Result<usize, NotANum
             Ok(bytes.len())
         }
         CellKind::Text => Ok(text_length(bytes)),
+        CellKind::Hex => Ok(hexadecimal_length(bytes)),
     }
 }
 
@@ -66,8 +70,9 @@ fn bytes_into(bytes: &[u8], out: &mut Buffer) -> Result<(), OutOfMemory>
     Ok(())
 }
 
-/// Appends the literal of a cell: NULL, a number as it stands, or text between single quotes with
-/// its special bytes escaped. It is refused where the cell of a numeric column isn't a number,
+/// Appends the literal of a cell: NULL, a number as it stands, text between single quotes with its
+/// special bytes escaped, or hexadecimal digits between X' and a quote (MySQL 8.0 Reference Manual,
+/// 11.1.1 "String Literals", 11.1.2 "Numeric Literals", 11.1.4 "Hexadecimal Literals"). It is refused where the cell of a numeric column isn't a number,
 /// and for want of memory, and leaves the buffer as it was then. Where the room is there it takes
 /// no memory.
 #[inline]
@@ -87,6 +92,7 @@ pub fn cell_into(kind: CellKind, cell: Option<&[u8]>, out: &mut Buffer) -> Resul
             bytes_into(bytes, out)
         }
         (CellKind::Text, Some(bytes)) => text_into(bytes, out),
+        (CellKind::Hex, Some(bytes)) => hexadecimal_into(bytes, out),
     };
     appended.map_err(|_| CellFault::OutOfMemory)
 }
@@ -112,6 +118,8 @@ mod tests {
                 b"'\\0\xff'".as_slice(),
             ),
             (CellKind::Number, b"-12.50".as_slice(), b"-12.50".as_slice()),
+            (CellKind::Hex, b"\x0a\xff".as_slice(), b"X'0AFF'".as_slice()),
+            (CellKind::Hex, b"".as_slice(), b"X''".as_slice()),
         ] {
             out.clear();
             cell_into(kind, Some(bytes), &mut out)?;
@@ -123,13 +131,13 @@ mod tests {
     }
 
     #[test]
-    fn null_is_null_in_both_kinds(rt: HostRuntime) -> Result<(), Fail> {
+    fn null_is_null_in_each_kind(rt: HostRuntime) -> Result<(), Fail> {
         let mut out = Buffer::new(rt.alloc());
-        for kind in [CellKind::Number, CellKind::Text] {
+        for kind in [CellKind::Number, CellKind::Text, CellKind::Hex] {
             cell_into(kind, None, &mut out)?;
             assert_eq!(rt; cell_length(kind, None)?, 4);
         }
-        assert_eq!(rt; out.as_slice(), b"NULLNULL".as_slice());
+        assert_eq!(rt; out.as_slice(), b"NULLNULLNULL".as_slice());
         Ok(())
     }
 
