@@ -1,6 +1,14 @@
 pub mod Counts
+pub mod Fulls
 pub mod Grammar
 pub mod Growth
+pub mod HexReads
 pub mod Hexadecimals
+pub mod CellKinds
+pub mod LiteralReads
 pub mod Marks
+pub mod NumberReads
 pub mod Numbers
+pub mod ReadBacks
+pub mod TextReads
+pub mod Units

@@ -1,4 +1,5 @@
 pub mod Buffer
+pub mod Cell
 pub mod Literal
 pub mod Name
 pub mod Number

@@ -1,11 +1,11 @@
 -- Literals of SQL as they are read: which bytes are literals, and which cell each spells.
 -- Beside what is written they take \b for 08, a doubled quote for one, any byte but the quote and the backslash as it is, and lower-case hexadecimal digits.
-use Rattle.std.specs.Prelude.{ℕ, ◌≡◌, ◌-◌, ◌+◌, ◌<◌, ◌==◌, ◌||◌, ◌⊎◌, ⊤, if◌then◌else◌, Bool, true, false, List, [], ◌∷◌, ◌++◌, length, take, drop, codes, Option, Some, None, Result, Ok, Err}
+use Rattle.std.specs.Prelude.{ℕ, ◌≡◌, ◌-◌, ◌+◌, ◌==◌, ◌||◌, ◌⊎◌, ⊤, if◌then◌else◌, Bool, true, false, List, [], ◌∷◌, ◌++◌, length, take, drop, codes, Some, None, Result, Ok, Err}
 use Rattle.hex.specs.Hex.{is_hex_digit, decode_pairs}
 use Rattle.hex.specs.declared.error.FromHexError.{FromHexError}
 use Rattle.grammar.specs.Language.{Language, Fixed, One, Then, Or, Many, Longest}
 use Rattle.sql_literals.specs.Number.{Number}
-use Rattle.sql_literals.specs.Literal.{Cell, literal, has_literal}
+use Rattle.sql_literals.specs.Literal.{Cell, literal}
 use Rattle.sql_literals.specs.declared.literal.CellKind.{CellKind}
 
 unfoldable pub Null : Language

@@ -38,6 +38,14 @@ impl Bytes {
         })
     }
 
+    // The bytes of a list, which stays where it is.
+    #[inline]
+    pub(crate) fn from_vec(alloc: Global, items: Vec<u8>) -> Bytes
+        ensures { result ≡ items.items }
+    {
+        Bytes { alloc, items }
+    }
+
     /// The bytes. Takes no memory.
     #[inline]
     pub fn as_slice(&self) -> &[u8]

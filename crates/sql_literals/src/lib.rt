@@ -1,20 +1,30 @@
 //! Names and cells of SQL, and their spellings: quoted names and literals, appended to buffers with
-//! reserved room.
+//! reserved room, and literals as they are read back.
 #![tactic(auto)]
 
 mod buffer;
 mod bytes;
+mod cell;
+mod escapes;
 mod hexadecimal;
 mod laws;
 mod literal;
 mod name;
 mod number;
+mod reading;
 mod special;
 mod text;
 
 pub use buffer::Buffer;
 pub use bytes::{Bytes, Name, NameList, NumberList};
-pub use laws::numbers_are_of_the_grammar;
+pub use cell::Cell;
+pub use escapes::unescape;
+pub use laws::{numbers_are_of_the_grammar, what_is_written_is_read_back};
 pub use literal::{CellFault, CellKind, NotANumber, cell_into, cell_length};
-pub use name::name_into;
+pub use name::{name_into, name_length};
 pub use plain_data::{OutOfMemory, Plain, PlainList};
+pub use reading::cell::{LiteralFault, literal_read};
+pub use reading::literal::read_literal;
+pub use reading::skip::literal_skip;
+pub use reading::text::read_text;
+pub use text::text_length_checked;

@@ -6,9 +6,9 @@ ghost use Rattle.sql_literals.specs.Name.{name_byte, quoted_name};
 use crate::buffer::Buffer;
 use plain_data::OutOfMemory;
 
-// How many bytes the quoted name has, if that many can be counted.
+/// How many bytes [`name_into`] appends, if that many can be counted. Takes no memory.
 #[tactic(auto, using(crate::proofs::Growth::quoted_name_length))]
-fn quoted_length(name: &[u8]) -> Option<usize>
+pub fn name_length(name: &[u8]) -> Option<usize>
     ensures { MatchOption result (2 ^ 64 ≤ length (quoted_name name.now)) (λ n. n ≡ length (quoted_name name.now)) }
 {
     let doubled = name.iter().filter(|byte| **byte == b'`').count();
@@ -45,7 +45,7 @@ pub fn name_into(name: &[u8], out: &mut Buffer) -> Result<(), OutOfMemory>
     ensures room { length (quoted_name name.now) ≤ out.old.spare → IsOk result × (out.new.spare + length (quoted_name name.now) ≡ out.old.spare) }
 {
     let _spare = out.spare();
-    let Some(length) = quoted_length(name) else {
+    let Some(length) = name_length(name) else {
         return Err(OutOfMemory);
     };
     out.reserve(length)?;

@@ -5,7 +5,7 @@ ghost use Rattle.sql_literals.specs.Number.{is_digit, is_digits, is_fraction, is
 
 // How many digits stand in front.
 #[inline]
-fn digit_count(bytes: &[u8]) -> usize
+pub(crate) fn digit_count(bytes: &[u8]) -> usize
     ensures value { result ≡ prefix_len is_digit bytes.now }
     ensures within { result ≤ length bytes.now }
 {

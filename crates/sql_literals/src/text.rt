@@ -16,9 +16,10 @@ pub(crate) fn text_length(bytes: &[u8]) -> usize
     bytes.len() + special_count(bytes) + 2
 }
 
-// The same of any text, if that many can be counted.
+/// How many bytes the literal of a text has, between single quotes and escaped, if that many can be
+/// counted. Takes no memory.
 #[tactic(auto, using(crate::proofs::Growth::quoted_length))]
-fn any_text_length(bytes: &[u8]) -> Option<usize>
+pub fn text_length_checked(bytes: &[u8]) -> Option<usize>
     ensures { MatchOption result (2 ^ 64 ≤ length (quoted bytes.now)) (λ n. n ≡ length (quoted bytes.now)) }
 {
     bytes
@@ -73,7 +74,7 @@ fn reserve_text(bytes: &[u8], out: &mut Buffer) -> Result<(), OutOfMemory>
     if spare >= 2 && bytes.len() <= (spare - 2) / 2 {
         return Ok(());
     }
-    let Some(length) = any_text_length(bytes) else {
+    let Some(length) = text_length_checked(bytes) else {
         return Err(OutOfMemory);
     };
     out.reserve(length)

@@ -1,0 +1,128 @@
+// The cell of the literal in front.
+ghost use Rattle.std.specs.Prelude.{◌≡◌, ◌≤◌, ℕ, take, IfOk, IsErrOf};
+ghost use Rattle.hex.specs.Hex.{decode_pairs};
+ghost use Rattle.grammar.specs.Language.{Longest, Absent};
+ghost use Rattle.sql_literals.specs.Cell.{bytes_of};
+ghost use Rattle.sql_literals.specs.Spelling.{Literal, cell_of, hex_bytes, inside};
+
+use crate::bytes::Bytes;
+use crate::cell::Cell;
+use crate::escapes::unescape;
+use crate::reading::skip::literal_skip;
+use plain_data::OutOfMemory;
+use std::alloc::Global;
+use thiserror::Error;
+
+/// Why no literal was read.
+#[derive(Clone, Copy, Debug, PartialEq, Eq, Error)]
+pub enum LiteralFault {
+    /// No prefix is a literal. The place is the length of the longest prefix that begins one.
+    #[error("not a literal, from byte {0} on")]
+    NotALiteral(usize),
+    /// Memory ran out.
+    #[error("out of memory")]
+    OutOfMemory,
+}
+
+// The bytes without the first `skipped` and the last.
+#[inline]
+fn inside(skipped: usize, text: &[u8]) -> &[u8]
+    requires { skipped ≤ 2 }
+    ensures { result.now ≡ inside skipped text.now }
+{
+    if text.len() <= skipped + 1 {
+        return &[];
+    }
+    &text[skipped..text.len() - 1]
+}
+
+// The bytes that pairs of digits stand for.
+fn bytes_of_digits(alloc: Global, digits: &[u8]) -> Result<Bytes, OutOfMemory>
+    ensures { IfOk result (λ made. made ≡ hex_bytes (decode_pairs 0 digits.now)) }
+{
+    match hex::decode(alloc, digits) {
+        Ok(bytes) => Ok(Bytes::from_vec(alloc, bytes)),
+        // A literal's digits are pairs, so that only memory can be wanting.
+        Err(_) => Err(OutOfMemory),
+    }
+}
+
+// The cell that a literal spells.
+fn cell_of(alloc: Global, text: &[u8]) -> Result<Cell, OutOfMemory>
+    ensures { IfOk result (λ cell. bytes_of cell ≡ cell_of text.now) }
+{
+    match text {
+        [] | [b'N', ..] => Ok(Cell::Null),
+        [b'\'', ..] => Ok(Cell::Value(unescape(alloc, inside(1, text))?)),
+        [b'X', ..] => Ok(Cell::Value(bytes_of_digits(alloc, inside(2, text))?)),
+        _ => Ok(Cell::Value(Bytes::of(alloc, text)?)),
+    }
+}
+
+/// The cell that the longest literal in front spells, and how many bytes that literal has. It is
+/// refused where no prefix is a literal, with the place where the bytes leave the literals, and for
+/// want of memory. NULL is [`Cell::Null`], and never an empty value (MySQL 8.0 Reference Manual,
+/// 11.1.7 "NULL Values"). Memory is taken for the cell's bytes alone.
+pub fn literal_read(alloc: Global, bytes: &[u8]) -> Result<(Cell, usize), LiteralFault>
+    ensures ok { IfOk result (λ read. Longest Literal bytes.now read.1 × (bytes_of read.0 ≡ cell_of (take read.1 bytes.now))) }
+    ensures not_a_literal { (place : ℕ) → IsErrOf result (LiteralFault.NotALiteral place) → Absent Literal bytes.now place }
+    ensures out_of_memory { IsErrOf result LiteralFault.OutOfMemory → (size : ℕ) × Longest Literal bytes.now size }
+{
+    let size = literal_skip(bytes).map_err(LiteralFault::NotALiteral)?;
+    let cell = cell_of(alloc, &bytes[..size]).map_err(|_| LiteralFault::OutOfMemory)?;
+    Ok((cell, size))
+}
+
+#[cfg(test)]
+mod tests {
+    use super::*;
+    use crate::buffer::Buffer;
+    use crate::literal::{CellKind, cell_into};
+    use std::test::Fail;
+
+    #[test]
+    fn literals_spell_cells(rt: HostRuntime) -> Result<(), Fail> {
+        for (bytes, expected) in [
+            (b"NULL,".as_slice(), None),
+            (b"'',".as_slice(), Some(b"".as_slice())),
+            (b"'a''b')".as_slice(), Some(b"a'b".as_slice())),
+            (br"'a\n\''".as_slice(), Some(b"a\n'".as_slice())),
+            (b"X'0aFF'".as_slice(), Some(b"\x0a\xff".as_slice())),
+            (b"-1.50,".as_slice(), Some(b"-1.50".as_slice())),
+        ] {
+            let (cell, _size) = literal_read(rt.alloc(), bytes)?;
+            assert_eq!(rt; cell.as_slice(), expected);
+            assert_eq!(rt; cell.copy()?.as_slice(), expected);
+        }
+        Ok(())
+    }
+
+    #[test]
+    fn what_is_no_literal_is_refused(rt: HostRuntime) {
+        let read = literal_read(rt.alloc(), b"'abc");
+        assert!(rt; matches!(read, Err(LiteralFault::NotALiteral(4))));
+    }
+
+    #[test]
+    fn written_literals_are_read_back(rt: HostRuntime) -> Result<(), Fail> {
+        let all = b"'\\\x00\n\r\x1a\" , ) \xff";
+        for (kind, cell) in [
+            (CellKind::Text, Some(all.as_slice())),
+            (CellKind::Hex, Some(all.as_slice())),
+            (CellKind::Number, Some(b"-0.0".as_slice())),
+            (CellKind::Text, None),
+        ] {
+            for follows in [b"".as_slice(), b",".as_slice(), b")".as_slice()] {
+                let mut out = Buffer::new(rt.alloc());
+                cell_into(kind, cell, &mut out)?;
+                let size = out.len();
+                out.reserve(follows.len())?;
+                out.push(follows);
+                let (read, read_size) = literal_read(rt.alloc(), out.as_slice())?;
+                assert_eq!(rt; read.as_slice(), cell);
+                assert_eq!(rt; read_size, size);
+            }
+        }
+        Ok(())
+    }
+}
