@@ -118,7 +118,7 @@ mod tests {
                 b"'\\0\xff'".as_slice(),
             ),
             (CellKind::Number, b"-12.50".as_slice(), b"-12.50".as_slice()),
-            (CellKind::Hex, b"\x0a\xff".as_slice(), b"X'0AFF'".as_slice()),
+            (CellKind::Hex, b"\x00\xff".as_slice(), b"X'00FF'".as_slice()),
             (CellKind::Hex, b"".as_slice(), b"X''".as_slice()),
         ] {
             out.clear();

@@ -85,6 +85,7 @@ mod tests {
         for (bytes, expected) in [
             (b"NULL,".as_slice(), None),
             (b"'',".as_slice(), Some(b"".as_slice())),
+            (b"''''".as_slice(), Some(b"'".as_slice())),
             (b"'a''b')".as_slice(), Some(b"a'b".as_slice())),
             (br"'a\n\''".as_slice(), Some(b"a\n'".as_slice())),
             (b"X'0aFF'".as_slice(), Some(b"\x0a\xff".as_slice())),
@@ -101,6 +102,8 @@ mod tests {
     fn what_is_no_literal_is_refused(rt: HostRuntime) {
         let read = literal_read(rt.alloc(), b"'abc");
         assert!(rt; matches!(read, Err(LiteralFault::NotALiteral(4))));
+        let read = literal_read(rt.alloc(), br"'\x'");
+        assert!(rt; matches!(read, Err(LiteralFault::NotALiteral(2))));
     }
 
     #[test]
