@@ -1,0 +1,9 @@
+pub mod Firsts
+pub mod Nexts
+pub mod Openings
+pub mod Places
+pub mod Searches
+pub mod Steps
+pub mod Waits
+pub mod Wholes
+pub mod Words

@@ -1,0 +1,29 @@
+-- What follows from calls of a splitter, whatever bytes follow.
+use Rattle.std.specs.Prelude.{ℕ, ◌≡◌, List, [], ◌∷◌, ◌++◌}
+use Rattle.statement_splitter.specs.Pieces.{Unread, with_more, Piece, pieces, PassesLimit, GivesPiece, GivesNone}
+
+-- where a statement is given, it is the first of the file's, and the others are those of what is unread behind it
+abbrev pub AGivenPieceIsTheFirst : Type 0
+AGivenPieceIsTheFirst = (old new : Unread) (statement : Piece) → GivesPiece old statement new → (more : List ℕ) → pieces (with_more more old) ≡ statement ∷ pieces (with_more more new)
+
+-- where none is given, none is ended, and those of the file are the same from then on
+pub record SameFromThenOn (old new : Unread) : Type 0 where
+  pub none : pieces old ≡ []
+  pub same : (more : List ℕ) → pieces (with_more more old) ≡ pieces (with_more more new)
+
+abbrev pub NoneIsLost : Type 0
+NoneIsLost = (old new : Unread) → GivesNone old new → SameFromThenOn old new
+
+-- a statement that is too long stays so with more bytes
+abbrev pub TooLongStaysSo : Type 0
+TooLongStaysSo = (limit : ℕ) (unread : Unread) (more : List ℕ) → PassesLimit limit unread → PassesLimit limit (with_more more unread)
+
+-- the texts of statements, each with a `|` behind it
+abbrev pub written : List Piece → List ℕ
+written [] = []
+written (statement ∷ statements) = (statement.text ++ 124 ∷ []) ++ written statements
+
+-- the statements that were written out are the file's first, and the others are those of what is unread
+pub record WritesOut (old : Unread) (before : List ℕ) (new : Unread) (now : List ℕ) : Type 0 where
+  pub same : (more : List ℕ) → now ++ written (pieces (with_more more new)) ≡ before ++ written (pieces (with_more more old))
+  pub none : pieces new ≡ []

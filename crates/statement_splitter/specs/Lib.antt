@@ -1,0 +1,5 @@
+pub mod Laws
+pub mod Pieces
+pub mod Scan
+pub mod Splits
+pub mod State

@@ -1,0 +1,192 @@
+-- The statements in a file.
+use Rattle.std.specs.Prelude.{◌≡◌, ◌≢◌, ℕ, zero, suc, ◌+◌, ◌-◌, slice_index, ◌<◌, ◌==◌, ◌&&◌, ◌||◌, not, nat_le, nat_eq, if◌then◌else◌, Bool, true, List, [], ◌∷◌, ◌++◌, length, take, drop, codes, Option, Some, None}
+use Rattle.std.specs.List.{starts_with, prefix_len}
+use Rattle.statement_splitter.specs.Scan.{size_in, end_size, is_line, before_mark, plus}
+use Rattle.statement_splitter.specs.declared.delimiter.Delimiter.{Delimiter}
+use Rattle.statement_splitter.specs.declared.delimiter.Delimiter.TheVariants.{Semicolon, Dollars}
+use Rattle.statement_splitter.specs.declared.opening.Opening.{Opening}
+use Rattle.statement_splitter.specs.declared.opening.Opening.TheVariants.{Nothing, White, Comment, DelimiterLine, Statement, Undecided}
+use Rattle.statement_splitter.specs.declared.opening.CommentEnd.{CommentEnd}
+use Rattle.statement_splitter.specs.declared.opening.CommentEnd.TheVariants.{LineFeed, StarSlash}
+
+-- a space, a tab, a line feed or a carriage return
+abbrev pub is_white : ℕ → Bool
+is_white byte = byte == 32 || byte == 9 || byte == 10 || byte == 13
+
+-- the bytes begin with the word
+abbrev pub begins : List ℕ → List ℕ → Bool
+begins word bytes = starts_with nat_eq bytes word
+
+-- the bytes are some of the word's first, and not all
+abbrev pub is_front_of : List ℕ → List ℕ → Bool
+is_front_of word bytes = starts_with nat_eq word bytes && not (nat_le (length word) (length bytes))
+
+-- so many dollars, and what follows them
+abbrev pub dollars_line : ℕ → List ℕ → Opening
+dollars_line n [] = Undecided
+dollars_line n (byte ∷ bytes) = if nat_le 2 n && byte == 10 then DelimiterLine (11 + n) (Dollars n) else Statement
+
+abbrev pub is_dollar : ℕ → Bool
+is_dollar byte = byte == 36
+
+-- the delimiter behind the word DELIMITER and a space, and the line's end
+abbrev pub delimiter_line : List ℕ → Opening
+delimiter_line bytes =
+    if begins (codes ";\n") bytes then DelimiterLine 12 Semicolon
+    else (if is_front_of (codes ";\n") bytes then Undecided
+    else (dollars_line (prefix_len is_dollar bytes) (drop (prefix_len is_dollar bytes) bytes)))
+
+-- at the beginning of a line
+abbrev pub line_opening : List ℕ → Opening
+line_opening bytes =
+    if begins (codes "DELIMITER ") bytes then delimiter_line (drop 10 bytes)
+    else (if is_front_of (codes "DELIMITER ") bytes then Undecided
+    else Statement)
+
+-- behind a `-`
+abbrev pub dash_opening : List ℕ → Opening
+dash_opening bytes =
+    if begins (codes "- ") bytes then Comment 3 LineFeed
+    else (if is_front_of (codes "- ") bytes then Undecided
+    else Statement)
+
+-- behind a `/`
+abbrev pub slash_opening : List ℕ → Opening
+slash_opening [] = Undecided
+slash_opening (byte ∷ bytes) =
+    if begins (codes "*!") (byte ∷ bytes) then Statement
+    else (if byte == 42 then Comment 2 StarSlash
+    else Statement)
+
+-- what begins between statements, at the beginning of a line or not
+abbrev pub opening : Bool → List ℕ → Opening
+opening fresh [] = Nothing
+opening fresh (byte ∷ bytes) =
+    if is_white byte then White
+    else (if byte == 35 then Comment 1 LineFeed
+    else (if byte == 45 then dash_opening bytes
+    else (if byte == 47 then slash_opening bytes
+    else (if fresh then line_opening (byte ∷ bytes)
+    else Statement))))
+
+-- the bytes that end a comment
+abbrev pub mark_of : CommentEnd → List ℕ
+mark_of LineFeed = codes "\n"
+mark_of StarSlash = codes "*/"
+
+-- what callers see of a splitter: what ends a statement, whether the next byte begins a line, how many bytes came before it, and the bytes from it on
+pub record Unread : Type 0 where
+  pub ending : Delimiter
+  pub fresh : Bool
+  pub offset : ℕ
+  pub rest : List ℕ
+
+-- the same with more bytes at the end
+abbrev pub with_more : List ℕ → Unread → Unread
+with_more more unread = record { ending = unread.ending; fresh = unread.fresh; offset = unread.offset; rest = unread.rest ++ more }
+
+-- the same behind so many bytes
+abbrev pub behind : ℕ → Bool → Delimiter → Unread → Unread
+behind n fresh ending unread = record { ending = ending; fresh = fresh; offset = unread.offset + n; rest = drop n unread.rest }
+
+-- whether the last of the first n bytes is a line feed
+abbrev pub ends_line : ℕ → List ℕ → Bool
+ends_line n bytes = slice_index bytes (n - 1) == 10
+
+-- a statement, and how many bytes of the file come before it
+pub record Piece : Type 0 where
+  pub offset : ℕ
+  pub text : List ℕ
+
+-- what comes next: a statement and what is unread behind it, one that isn't ended, bytes that more bytes decide, or none
+pub data Next : Type 0 where
+  piece : Piece → Unread → Next
+  unended : Unread → Next
+  waiting : Unread → Next
+  none : Unread → Next
+
+-- what stands here: that, or something that is passed over
+pub data Step : Type 0 where
+  found : Next → Step
+  further : Unread → Step
+
+-- a statement that begins here, and has so many bytes where it is ended
+abbrev pub statement_next : Unread → Option ℕ → Next
+statement_next unread None = unended unread
+statement_next unread (Some size) = piece (record { offset = unread.offset; text = take size unread.rest }) (behind (size + end_size unread.ending) (is_line unread.ending) unread.ending unread)
+
+-- so many bytes that are passed over
+abbrev pub passed : ℕ → Unread → Step
+passed n unread = further (behind n (ends_line n unread.rest) unread.ending unread)
+
+-- a comment with so many bytes before the mark that ends it, where it is ended
+abbrev pub comment_step : Unread → List ℕ → Option ℕ → Step
+comment_step unread mark None = found (none unread)
+comment_step unread mark (Some size) = passed (size + length mark) unread
+
+abbrev pub step_by : Unread → Opening → Step
+step_by unread Nothing = found (none unread)
+step_by unread White = passed 1 unread
+step_by unread (Comment n end) = comment_step unread (mark_of end) (plus n (before_mark (mark_of end) (drop n unread.rest)))
+step_by unread (DelimiterLine n ending) = further (behind n true ending unread)
+step_by unread Statement = found (statement_next unread (size_in unread.ending unread.rest))
+step_by unread Undecided = found (waiting unread)
+
+abbrev pub step : Unread → Step
+step unread = step_by unread (opening unread.fresh unread.rest)
+
+-- what comes next, behind at most so many things that are passed over
+abbrev pub next_within : ℕ → Unread → Next
+next_within zero unread = none unread
+next_within (suc n) unread = elim (step unread) [ found next ↦ next | further unread ↦ next_within n unread ]
+
+-- each thing that is passed over has a byte or more
+unfoldable pub next : Unread → Next
+next unread = next_within (suc (length unread.rest)) unread
+
+abbrev pub pieces_within : ℕ → Unread → List Piece
+pieces_within zero unread = []
+pieces_within (suc n) unread = elim (next unread) [ piece statement unread ↦ statement ∷ pieces_within n unread | unended unread ↦ [] | waiting unread ↦ [] | none unread ↦ [] ]
+
+-- the statements that are ended
+unfoldable pub pieces : Unread → List Piece
+pieces unread = pieces_within (suc (length unread.rest)) unread
+
+abbrev pub last_within : ℕ → Unread → Next
+last_within zero unread = none unread
+last_within (suc n) unread = elim (next unread) [ piece statement unread ↦ last_within n unread | unended unread ↦ unended unread | waiting unread ↦ waiting unread | none unread ↦ none unread ]
+
+-- what comes behind the statements that are ended
+unfoldable pub last : Unread → Next
+last unread = last_within (suc (length unread.rest)) unread
+
+-- where a statement is begun that isn't ended, the bytes before it
+abbrev pub begun : Next → Option ℕ
+begun (piece statement unread) = None
+begun (unended unread) = Some unread.offset
+begun (waiting unread) = Some unread.offset
+begun (none unread) = None
+
+-- how many bytes the next statement has, ended or not
+abbrev pub size_of : Next → Option ℕ
+size_of (piece statement unread) = Some (length statement.text)
+size_of (unended unread) = Some (length unread.rest)
+size_of (waiting unread) = Some (length unread.rest)
+size_of (none unread) = None
+
+-- whatever bytes follow, the next statement, ended or not, has more bytes than that
+abbrev pub PassesLimit : ℕ → Unread → Type 0
+PassesLimit limit unread = (more : List ℕ) → (size : ℕ) × (size_of (next (with_more more unread)) ≡ Some size) × (limit < size)
+
+-- the next statement is that one, whatever bytes follow
+abbrev pub GivesPiece : Unread → Piece → Unread → Type 0
+GivesPiece old statement new = (more : List ℕ) → next (with_more more old) ≡ piece statement (with_more more new)
+
+-- no statement is ended, and what comes next is the same, whatever bytes follow
+pub record GivesNone (old new : Unread) : Type 0 where
+  pub no_piece : (statement : Piece) (further : Unread) → next old ≢ piece statement further
+  pub same : (more : List ℕ) → next (with_more more old) ≡ next (with_more more new)
+
+-- a file that isn't read yet
+abbrev pub unread_file : List ℕ → Unread
+unread_file bytes = record { ending = Semicolon; fresh = true; offset = 0; rest = bytes }

@@ -1,0 +1,58 @@
+-- What reading the next statement does.
+use Rattle.std.specs.Prelude.{◌≡◌, ℕ, ◌+◌, ◌≤◌, Bool, true, false, [], length, Result, Ok, Err, Option, Some, None}
+use Rattle.statement_splitter.specs.Pieces.{Unread, Piece, PassesLimit, GivesPiece, GivesNone}
+use Rattle.statement_splitter.specs.declared.splitter.SplitFault.{SplitFault}
+use Rattle.statement_splitter.specs.declared.splitter.SplitFault.TheVariants.{TooLong}
+use Rattle.statement_splitter.specs.declared.splitter.Piece as lent
+
+-- what callers see of a splitter: the most bytes that a statement may have, the statement that was given last, and what is unread
+pub record Split : Type 0 where
+  pub limit : ℕ
+  pub last : Piece
+  pub unread : Unread
+
+-- the statement given last, where none is
+abbrev pub no_piece : Piece
+no_piece = record { offset = 0; text = [] }
+
+-- the bytes that were fed are as many as before
+abbrev pub IsEven : Unread → Unread → Type 0
+IsEven old new = new.offset + length new.rest ≡ old.offset + length old.rest
+
+-- the next statement is given
+pub record Gives (old : Split) (statement : Piece) (new : Split) : Type 0 where
+  pub short : length statement.text ≤ old.limit
+  pub gives : GivesPiece old.unread statement new.unread
+  pub even : IsEven old.unread new.unread
+  pub last : new.last ≡ statement
+  pub limit : new.limit ≡ old.limit
+
+-- no statement is ended, and it may still be short enough
+pub record Waits (old new : Split) : Type 0 where
+  pub none : GivesNone old.unread new.unread
+  pub short : ¬ PassesLimit old.limit old.unread
+  pub even : IsEven old.unread new.unread
+  pub last : new.last ≡ old.last
+  pub limit : new.limit ≡ old.limit
+
+-- the next statement is too long, and nothing changes
+pub record Refuses (old : Split) (size : ℕ) (new : Split) : Type 0 where
+  pub size_is : size ≡ old.limit + 1
+  pub long : PassesLimit old.limit old.unread
+  pub same : new ≡ old
+
+-- what one step does; a statement that it gives is the last one
+abbrev pub Steps : Split → Result Bool SplitFault → Split → Type 0
+Steps old (Ok true) new = Gives old new.last new
+Steps old (Ok false) new = Waits old new
+Steps old (Err (TooLong size)) new = Refuses old size new
+
+-- a statement as it is lent
+abbrev pub piece_of : lent.Piece → Piece
+piece_of statement = record { offset = statement.offset; text = statement.text.now }
+
+-- what reading the next statement does
+abbrev pub HandsOut : Split → Result (Option lent.Piece) SplitFault → Split → Type 0
+HandsOut old (Ok (Some statement)) new = Gives old (piece_of statement) new
+HandsOut old (Ok None) new = Waits old new
+HandsOut old (Err (TooLong size)) new = Refuses old size new

@@ -1,0 +1,89 @@
+// Where a byte of a statement stands.
+ghost use Rattle.std.specs.Prelude.{◌≡◌, ◌==◌, ◌&&◌};
+ghost use Rattle.statement_splitter.specs.Scan.{is_text, behind_text, behind_byte};
+
+/// Where the next byte of a statement stands.
+#[derive(Clone, Copy)]
+pub enum Within {
+    /// Neither in quotes nor in a comment.
+    Text,
+    /// The same, behind a `-`.
+    Dash,
+    /// The same, behind two of them.
+    Dashes,
+    /// The same, behind a `/`.
+    Slash,
+    /// Behind a `/*`: with a `!` it goes on as text.
+    Opened,
+    /// In a comment up to `*/`.
+    Comment,
+    /// There, behind a `*`.
+    Star,
+    /// In a comment up to the line's end.
+    Line,
+    /// In a string with that quote.
+    Quoted(u8),
+    /// There, behind a backslash.
+    Escaped(u8),
+    /// In a name between backquotes.
+    Name,
+}
+
+#[inline]
+fn is_text(within: Within) -> bool
+    ensures { result ≡ is_text within }
+{
+    match within {
+        Within::Text | Within::Dash | Within::Dashes | Within::Slash => true,
+        _ => false,
+    }
+}
+
+// Whether the byte ends a statement there.
+#[inline]
+pub(crate) fn is_end(within: Within, byte: u8) -> bool
+    ensures { result ≡ (byte == 59 && is_text within) }
+{
+    byte == b';' && is_text(within)
+}
+
+#[inline]
+fn behind_text(byte: u8) -> Within
+    ensures { result ≡ behind_text byte }
+{
+    match byte {
+        b'-' => Within::Dash,
+        b'/' => Within::Slash,
+        b'#' => Within::Line,
+        b'\'' | b'"' => Within::Quoted(byte),
+        b'`' => Within::Name,
+        _ => Within::Text,
+    }
+}
+
+#[inline]
+pub(crate) fn behind_byte(within: Within, byte: u8) -> Within
+    ensures { result ≡ behind_byte within byte }
+{
+    match within {
+        Within::Text => behind_text(byte),
+        Within::Dash if byte == b'-' => Within::Dashes,
+        Within::Dash => behind_text(byte),
+        Within::Dashes if byte == b' ' => Within::Line,
+        Within::Dashes if byte == b'-' => Within::Dashes,
+        Within::Dashes => behind_text(byte),
+        Within::Slash if byte == b'*' => Within::Opened,
+        Within::Slash => behind_text(byte),
+        Within::Opened if byte == b'!' => Within::Text,
+        Within::Star if byte == b'/' => Within::Text,
+        Within::Opened | Within::Comment | Within::Star if byte == b'*' => Within::Star,
+        Within::Opened | Within::Comment | Within::Star => Within::Comment,
+        Within::Line if byte == b'\n' => Within::Text,
+        Within::Line => Within::Line,
+        Within::Quoted(quote) if byte == quote => Within::Text,
+        Within::Quoted(quote) if byte == b'\\' => Within::Escaped(quote),
+        Within::Quoted(quote) | Within::Escaped(quote) => Within::Quoted(quote),
+        Within::Name if byte == b'`' => Within::Text,
+        Within::Name => Within::Name,
+    }
+}
