@@ -1,0 +1,16 @@
+pub mod Quotes
+pub mod Tokens
+pub mod Cuts
+pub mod Parts
+pub mod Names
+pub mod Columns
+pub mod Utf8
+pub mod Counters
+pub mod Longer
+pub mod Fronts
+pub mod HeadFronts
+pub mod Closers
+pub mod Agreements
+pub mod HeadPlaces
+pub mod HeadRefusals
+pub mod Uncreated

@@ -1,0 +1,10 @@
+use Rattle.std.proofs.Common.{◌≡◌, length}
+use Rattle.object_texts.specs.Shape.{has_word}
+use Rattle.object_texts.specs.Token.{tokens}
+use Rattle.object_texts.proofs.column.has_word.Given as goal
+
+abbrev pub invariant-tokens : goal.invariant-tokens
+invariant-tokens l = has_word l.lower (tokens l.rest) ≡ has_word l.lower (tokens l.text)
+
+abbrev pub decreases-tokens : goal.decreases-tokens
+decreases-tokens l = length l.rest

@@ -1,0 +1,7 @@
+use Rattle.std.proofs.Common.{◌≡◌, ◌+◌, drop}
+use Rattle.std.specs.List.{prefix_len}
+use Rattle.object_texts.specs.Shape.{is_letter}
+use Rattle.object_texts.proofs.column.letters.Given as goal
+
+abbrev pub invariant-loop-i : goal.invariant-loop-i
+invariant-loop-i l = l.i + prefix_len is_letter (drop l.i l.word) ≡ prefix_len is_letter l.word

@@ -1,0 +1,36 @@
+-- What is left of a text behind some of its tokens.
+use Rattle.std.specs.Prelude.{◌≡◌, ℕ, zero, suc, ◌==◌, ◌||◌, if◌then◌else◌, List, [], ◌∷◌, drop, length, slice_index, Option, Some, None}
+use Rattle.std.specs.Char.{to_ascii_lowercase}
+use Rattle.std.specs.List.{common_prefix_len}
+use Rattle.object_texts.specs.Token.{Token, first_token, tokens}
+use Rattle.object_texts.specs.Token.Token.{word, quoted_name, mark, unended}
+
+-- what is left behind so many tokens
+abbrev pub left_behind : ℕ → List ℕ → List ℕ
+left_behind zero bytes = bytes
+left_behind (suc n) bytes = left_behind n (drop (first_token bytes).size bytes)
+
+-- the rest of a text is what is left behind some of its tokens
+pub record IsLeft (text rest : List ℕ) : Type 0 where
+  pub count : ℕ
+  pub is : left_behind count text ≡ rest
+
+-- how many bytes of a word stand at the front, in any case, where the word is given in lower case
+abbrev pub agreement : List ℕ → List ℕ → ℕ
+agreement text lower = common_prefix_len (λ byte letter. to_ascii_lowercase byte == letter) text lower
+
+-- how far a text that begins with that byte goes along where a name is to begin, by its first token
+abbrev pub place_of : ℕ → ℕ → Token → Option ℕ
+place_of byte size (word bytes) = None
+place_of byte size (quoted_name bytes) = None
+place_of byte size unended = Some (if byte == 96 || byte == 47 then size else 0)
+place_of byte size (mark other) = Some (if other == 47 then 1 else 0)
+place_of byte size token = Some 0
+
+abbrev pub place_in : ℕ → ℕ → List Token → Option ℕ
+place_in byte size [] = Some 0
+place_in byte size (token ∷ rest) = place_of byte size token
+
+-- How far a text goes along where a name is to begin past white space and comments: not as far as it goes where one does.
+abbrev pub name_place : List ℕ → Option ℕ
+name_place text = place_in (slice_index text 0) (length text) (tokens text)

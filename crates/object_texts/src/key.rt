@@ -1,0 +1,180 @@
+// The item PRIMARY KEY, and the column that is the key.
+ghost use Rattle.std.specs.Prelude.{◌≡◌, ◌<◌, ◌^◌, length, position, option_map, option_and_then, IfOk, IfSome};
+ghost use Rattle.std.specs.List.{list_all};
+ghost use Rattle.object_texts.specs.Shape.{behind_length, behind_primary, is_digit, is_ended, is_integer, is_key, is_number, key_of, key_parts, only_name, part_name, parts, past_direction, primary, undoubled};
+ghost use Rattle.object_texts.specs.Reading.{token_of};
+ghost use Rattle.object_texts.specs.Token.{past_gaps, tokens};
+
+use crate::column::undoubled;
+use crate::items::{enclosed_in, next_part};
+use crate::shape::Column;
+use crate::token::{
+    Token, behind_front_word, behind_mark, behind_word, next_token, past_gaps, past_spaces,
+};
+use sql_literals::OutOfMemory;
+use std::alloc::Global;
+
+// What stands behind the words PRIMARY KEY.
+fn behind_primary(item: &[u8]) -> Option<&[u8]>
+    ensures { option_map (λ rest. tokens rest.now) result ≡ behind_primary (tokens item.now) }
+{
+    behind_word(b"key", behind_front_word(b"primary", past_spaces(item))?)
+}
+
+// What stands in the parenthesis of the item PRIMARY KEY (..).
+fn key_parts(item: &[u8]) -> Option<&[u8]>
+    ensures { option_map (λ inner. parts 0 (tokens inner.now)) result ≡ key_parts (tokens item.now) }
+{
+    let (inner, _) = enclosed_in(behind_primary(item)?)?;
+    Some(inner)
+}
+
+// The same of the first PRIMARY KEY item.
+fn primary(items: &[u8]) -> Option<&[u8]>
+    ensures { option_map (λ inner. parts 0 (tokens inner.now)) result ≡ primary (parts 0 (tokens items.now)) }
+{
+    let mut rest = items;
+    'items: loop {
+        let (item, left) = next_part(rest);
+        if let Some(inner) = key_parts(item) {
+            return Some(inner);
+        }
+        let Some(behind) = left else {
+            return None;
+        };
+        rest = behind;
+    }
+}
+
+pub(crate) fn is_digit(byte: u8) -> bool
+    ensures { result ≡ is_digit byte }
+{
+    byte.is_ascii_digit()
+}
+
+fn are_digits(bytes: &[u8]) -> bool
+    ensures { result ≡ list_all is_digit bytes.now }
+{
+    for byte in bytes {
+        if !is_digit(*byte) {
+            return false;
+        }
+    }
+    true
+}
+
+fn is_number(token: Token<'_>) -> bool
+    ensures { result ≡ is_number (token_of token.entry) }
+{
+    match token {
+        Token::Word(bytes) => are_digits(bytes),
+        _ => false,
+    }
+}
+
+// What stands behind a length in parentheses.
+fn behind_length(text: &[u8]) -> Option<&[u8]>
+    ensures { option_map (λ rest. tokens rest.now) result ≡ behind_length (tokens text.now) }
+{
+    let inner = behind_mark(b'(', past_gaps(text))?;
+    let (token, rest) = next_token(past_gaps(inner))?;
+    if !is_number(token) {
+        return None;
+    }
+    behind_mark(b')', past_gaps(rest))
+}
+
+// The text without a direction in front.
+fn past_direction(text: &[u8]) -> &[u8]
+    ensures { tokens result.now ≡ past_direction (tokens text.now) }
+{
+    if let Some(rest) = behind_word(b"asc", text) {
+        return rest;
+    }
+    behind_word(b"desc", text).unwrap_or(text)
+}
+
+// Whether there is nothing but white space and comments.
+fn is_ended(text: &[u8]) -> bool
+    ensures { result ≡ is_ended (past_gaps (tokens text.now)) }
+{
+    next_token(past_gaps(text)).is_none()
+}
+
+// The name of a part of a key, as it is spelled between backquotes.
+fn part_name(part: &[u8]) -> Option<&[u8]>
+    ensures { option_map (λ name. undoubled name.now) result ≡ part_name (tokens part.now) }
+{
+    let (Token::QuotedName(name), rest) = next_token(past_gaps(part))? else {
+        return None;
+    };
+    let rest = behind_length(rest).unwrap_or(rest);
+    is_ended(past_direction(rest)).then_some(name)
+}
+
+// The name of the only part.
+#[tactic(auto, using(crate::proofs::Parts::part_by_part))]
+fn only_name(inner: &[u8]) -> Option<&[u8]>
+    ensures { option_map (λ name. undoubled name.now) result ≡ only_name (parts 0 (tokens inner.now)) }
+{
+    let (part, None) = next_part(inner) else {
+        return None;
+    };
+    part_name(part)
+}
+
+// The name of the only part of PRIMARY KEY.
+fn key_name(items: &[u8]) -> Option<&[u8]>
+    ensures { option_map (λ name. undoubled name.now) result ≡ option_and_then only_name (primary (parts 0 (tokens items.now))) }
+{
+    only_name(primary(items)?)
+}
+
+fn is_integer(data_type: &[u8]) -> bool
+    ensures { result ≡ is_integer data_type.now }
+{
+    data_type == b"tinyint".as_slice()
+        || data_type == b"smallint".as_slice()
+        || data_type == b"mediumint".as_slice()
+        || data_type == b"int".as_slice()
+        || data_type == b"bigint".as_slice()
+}
+
+// Whether a column has that name, and is plain and an integer.
+fn is_key(name: &[u8], column: &Column) -> bool
+    ensures { result ≡ is_key name.now column.now }
+{
+    column.name.as_slice() == name && !column.generated && is_integer(column.data_type.as_slice())
+}
+
+// The first column that is the key, where that name is the key's.
+fn key_index(name: &[u8], columns: &[Column]) -> Option<usize>
+    ensures place { result ≡ position (is_key name.now) columns.now }
+    ensures within { IfSome result (λ place. place < length columns.now) }
+{
+    columns.iter().position(|column| is_key(name, column))
+}
+
+fn key_place(name: &[u8], columns: &[Column]) -> Option<u32>
+    requires { length columns.now < 2 ^ 32 }
+    ensures { result ≡ position (is_key name.now) columns.now }
+{
+    let place = key_index(name, columns)?;
+    Some(place as u32)
+}
+
+// Which column is the key.
+pub(crate) fn key_of(
+    alloc: Global,
+    items: &[u8],
+    columns: &[Column],
+) -> Result<Option<u32>, OutOfMemory>
+    requires { length columns.now < 2 ^ 32 }
+    ensures { IfOk result (λ key. key ≡ key_of (parts 0 (tokens items.now)) columns.now) }
+{
+    let Some(name) = key_name(items) else {
+        return Ok(None);
+    };
+    let name = undoubled(alloc, name)?;
+    Ok(key_place(name.as_slice(), columns))
+}
