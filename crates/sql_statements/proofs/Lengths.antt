@@ -1,0 +1,37 @@
+-- The lengths of names with commas between them, and of pieces.
+use Rattle.std.proofs.Common.{◌≡◌, subst, sym, ap, ◌∙◌, ℕ, ◌+◌, ◌<◌, ◌≤◌, List, [], ◌∷◌, ◌++◌, length, take, get_or, append_assoc, length-append}
+use Rattle.std.specs.List.{flat_map, fold}
+use Rattle.std.proofs.lemmas.List.{append-nil}
+use Rattle.std.proofs.lemmas.List.Folds.{length-flat_map-take}
+use Rattle.sql_literals.specs.Name.{quoted_name}
+use Rattle.sql_statements.specs.Piece.{piece_text, pieces_text, later_name}
+use Rattle.sql_statements.specs.Text.{names}
+use Rattle.sql_statements.specs.declared.piece.Piece.{Piece}
+
+-- some names at the front and the next one are no longer than all
+pub later_names_fit : (names : List (List ℕ)) (i : ℕ) (name : List ℕ) → name ≡ get_or names i name → i < length names → length (flat_map later_name (take i names)) + length (later_name name) ≤ length (flat_map later_name names)
+later_names_fit names i name is within =
+    subst (λ (n : List ℕ). length (flat_map later_name (take i names)) + length (later_name n) ≤ length (flat_map later_name names)) (sym is) (length-flat_map-take later_name names i name within)
+
+-- the same of pieces
+pub pieces_fit : (pieces : List Piece) (i : ℕ) (piece : Piece) → piece ≡ get_or pieces i piece → i < length pieces → length (flat_map piece_text (take i pieces)) + length (piece_text piece) ≤ length (flat_map piece_text pieces)
+pieces_fit pieces i piece is within =
+    subst (λ (p : Piece). length (flat_map piece_text (take i pieces)) + length (piece_text p) ≤ length (flat_map piece_text pieces)) (sym is) (length-flat_map-take piece_text pieces i piece within)
+
+-- names with commas between them are the first one and each later one behind a comma
+first_and_later : (name : List ℕ) (later : List (List ℕ)) → names (name ∷ later) ≡ quoted_name name ++ flat_map later_name later
+first_and_later name [] = sym (append-nil (quoted_name name))
+first_and_later name (next ∷ later) = ap (λ t. quoted_name name ++ 44 ∷ t) (first_and_later next later)
+
+pub names_is : (all later : List (List ℕ)) (name : List ℕ) → all ≡ name ∷ later → names all ≡ quoted_name name ++ flat_map later_name later
+names_is all later name is = ap (λ (a : List (List ℕ)). names a) is ∙ first_and_later name later
+
+pub names_length_is : (all later : List (List ℕ)) (name : List ℕ) → all ≡ name ∷ later → length (names all) ≡ length (quoted_name name) + length (flat_map later_name later)
+names_length_is all later name is = ap length (names_is all later name is) ∙ length-append (quoted_name name) (flat_map later_name later)
+
+joined_behind : (front : List ℕ) (pieces : List Piece) → fold (λ text piece. text ++ piece_text piece) front pieces ≡ front ++ flat_map piece_text pieces
+joined_behind front [] = sym (append-nil front)
+joined_behind front (piece ∷ pieces) = joined_behind (front ++ piece_text piece) pieces ∙ append_assoc front (piece_text piece) (flat_map piece_text pieces)
+
+pub pieces_text_is : (pieces : List Piece) → pieces_text pieces ≡ flat_map piece_text pieces
+pieces_text_is pieces = joined_behind [] pieces

@@ -1,0 +1,7 @@
+use Rattle.std.proofs.Common.{◌≡◌, length, take}
+use Rattle.std.specs.List.{flat_map}
+use Rattle.sql_statements.specs.Piece.{piece_text}
+use Rattle.sql_statements.proofs.piece.pieces_length.Given as goal
+
+abbrev pub invariant-loop-piece : goal.invariant-loop-piece
+invariant-loop-piece l = l.total ≡ length (flat_map piece_text (take l.piece-index l.pieces))

@@ -1,0 +1,9 @@
+use Rattle.std.proofs.Common.{◌≡◌, ◌+◌, ◌++◌, length, take}
+use Rattle.std.specs.List.{flat_map}
+use Rattle.sql_statements.specs.Piece.{later_name}
+use Rattle.sql_statements.proofs.piece.push_later_names.Given as goal
+
+abbrev pub invariant-loop-name : goal.invariant-loop-name
+invariant-loop-name l =
+    (l.out.bytes ≡ l.initial.out.bytes ++ flat_map later_name (take l.name-index l.names))
+    × (l.out.spare + length (flat_map later_name (take l.name-index l.names)) ≡ l.initial.out.spare)

@@ -1,0 +1,111 @@
+// The variable parts of statements.
+ghost use Rattle.std.specs.Prelude.{◌≡◌, IfOk};
+
+use plain_data::{OutOfMemory, Plain, PlainList};
+use sql_literals::Bytes;
+use std::alloc::Global;
+use std::marker::Model;
+
+#[derive(Debug, Drop)]
+enum Held<'a> {
+    Borrowed(&'a [u8]),
+    Owned(Bytes),
+}
+
+/// A name or the value of a text literal in a statement: its bytes, without quotes and escapes,
+/// borrowed or owned.
+#[derive(Debug, Drop)]
+pub struct Part<'a> {
+    held: Held<'a>,
+}
+
+impl<'a> Model for Part<'a> {
+    ghost use Rattle.std.specs.Prelude.{List, ℕ};
+    ghost use Rattle.sql_statements.specs.Held.{held_bytes};
+
+    ghost Value = { List ℕ };
+
+    ghost view = { λ p. held_bytes p.held };
+}
+
+impl<'a> Part<'a> {
+    /// Borrows the bytes. Takes no memory.
+    pub fn of(bytes: &'a [u8]) -> Part<'a>
+        ensures { result ≡ bytes.now }
+    {
+        Part {
+            held: Held::Borrowed(bytes),
+        }
+    }
+
+    /// The bytes. Takes no memory.
+    pub fn bytes(&self) -> &[u8]
+        ensures { result.now ≡ self.now }
+    {
+        match &self.held {
+            Held::Borrowed(bytes) => bytes,
+            Held::Owned(bytes) => bytes.as_slice(),
+        }
+    }
+}
+
+// A copy of a borrowed part borrows the same bytes, and takes no memory.
+impl<'a> Plain for Part<'a> {
+    fn duplicate(&self) -> Result<Part<'a>, OutOfMemory> {
+        let held = match &self.held {
+            Held::Borrowed(bytes) => Held::Borrowed(bytes),
+            Held::Owned(bytes) => Held::Owned(bytes.copy()?),
+        };
+        Ok(Part { held })
+    }
+}
+
+/// A list of parts, as the names of columns.
+pub type PartList<'a> = PlainList<Part<'a>>;
+
+/// The whole text of a statement, borrowed.
+#[derive(Debug, Drop)]
+pub struct WholeText<'a> {
+    bytes: &'a [u8],
+}
+
+impl<'a> Model for WholeText<'a> {
+    ghost use Rattle.std.specs.Prelude.{List, ℕ};
+
+    ghost Value = { List ℕ };
+
+    ghost view = { λ t. t.bytes.now };
+}
+
+impl<'a> WholeText<'a> {
+    /// Borrows the text. Takes no memory.
+    pub fn of(bytes: &'a [u8]) -> WholeText<'a>
+        ensures { result ≡ bytes.now }
+    {
+        WholeText { bytes }
+    }
+
+    /// The text. Takes no memory.
+    pub fn bytes(&self) -> &[u8]
+        ensures { result.now ≡ self.now }
+    {
+        self.bytes
+    }
+}
+
+#[cfg(test)]
+mod tests {
+    use super::*;
+    use std::test::Fail;
+
+    #[test]
+    fn copies_of_parts_are_equal(rt: HostRuntime) -> Result<(), Fail> {
+        let mut names = PartList::new(rt.alloc());
+        names.push(Part::of(b"id"))?;
+        let copy = names.copy()?;
+        assert_eq!(rt; copy.as_slice().len(), 1);
+        assert_eq!(rt; copy.as_slice()[0].bytes(), b"id".as_slice());
+        assert_eq!(rt; WholeText::of(b"COMMIT").bytes(), b"COMMIT".as_slice());
+        Ok(())
+    }
+}
