@@ -38,6 +38,15 @@ impl<'a> Part<'a> {
         }
     }
 
+    /// Takes the bytes, as of a name in which a quote was escaped. Takes no memory.
+    pub fn owned(bytes: Bytes) -> Part<'a>
+        ensures { result ≡ bytes }
+    {
+        Part {
+            held: Held::Owned(bytes),
+        }
+    }
+
     /// The bytes. Takes no memory.
     pub fn bytes(&self) -> &[u8]
         ensures { result.now ≡ self.now }
