@@ -21,8 +21,9 @@ pub struct Greeting {
 impl Greeting {
     /// Reads a server's first message. It is a greeting of protocol version 10 that offers protocol 41
     /// (0x200) and scrambles of twenty bytes (0x8000). `NotProtocol10` exactly where its first byte is
-    /// neither 10 nor 255; `Refused` exactly where it is an ERR; else `Garbled` where it is no greeting.
-    /// Takes no memory. (MySQL source documentation, `Protocol::HandshakeV10`, `ERR_Packet`.)
+    /// neither 10 nor 255, `Refused` exactly where it is an ERR, and `Garbled` wherever else it is no
+    /// such greeting, as where it is empty. Takes no memory. (MySQL source documentation,
+    /// `Protocol::HandshakeV10`, `ERR_Packet`.)
     pub fn read(payload: &[u8]) -> Result<Greeting, LoginFault>
         ensures { result ≡ greeting_of payload.now }
     {
