@@ -19,9 +19,6 @@ use Rattle.dumper_cli.proofs.Unheard.{take_behind}
 pub Rose-later : (a b c : ℕ) → a ≤ b → Rose b c → Rose a c
 Rose-later a b c le rose = omega arith
 
-length_packet : (id : ℕ) (message : List ℕ) → length (packet id message) ≡ 4 + length message
-length_packet id message = omega arith
-
 module _ {L : Type 0} (of : Ghosts L) (asked : Asked) where
   -- the packet that was heard is the first of what was unheard
   unheard_packet : (id : ℕ) (a b : Session L) → Advances a b → Hears of id a b → HasPacket id b.frames.message (unheard of a) (unheard of b)

@@ -5,7 +5,6 @@ use Rattle.link_traits.specs.declared.link.Link.{Ghosts as LinkGhosts}
 use Rattle.link_traits.specs.declared.folder.Shelf.{Ghosts as ShelfGhosts}
 use Rattle.result_rows.specs.Reading.{Reading, Further, definition, row, further_of, after}
 use Rattle.sql_literals.specs.Literal.{Cell}
-use Rattle.dumper_cli.specs.Columns.{is_row_of}
 use Rattle.dumper_cli.specs.Next.{NextRow, Broke}
 use Rattle.dumper_cli.specs.Place.{Place, more, whole, more_if, at_rows, rows_come, turn_of}
 use Rattle.dumper_cli.specs.Run.{Start, Reached}
@@ -42,16 +41,6 @@ module _ {S : Type 0} (shelf : ShelfGhosts S) where
       turns = λ rows next. ap (at_rows next reading columns rows) is ∙ (ap (λ (r : Reading). more (next r rows)) (sym (behind ∙ ap (after reading) is)) ∙ ap (λ (r : List (List Cell)). more (next later r)) (sym (append-nil rows)));
     },
     Adds-none columns file,
-  )
-
-  pub Takes-row : (reading : Reading) (columns : List Column) (cells : List Cell) (further : Further) (later : Reading) (file new_file : DataFile S shelf) → 0 < reading.columns → further ≡ row cells → later ≡ after reading further → is_row_of columns cells ≡ true → Adds shelf columns (cells ∷ []) file new_file → TakesRow shelf true reading columns file further later new_file
-  Takes-row reading columns cells further later file new_file some is behind fits adds = (
-    cells ∷ [],
-    record {
-      pending = rw (behind, is) some;
-      turns = λ rows next. ap (at_rows next reading columns rows) is ∙ (ap (λ (b : Bool). more_if b (next reading (rows ++ cells ∷ []))) fits ∙ ap (λ (r : Reading). more (next r (rows ++ cells ∷ []))) (sym (behind ∙ ap (after reading) is)));
-    },
-    adds,
   )
 
   pub Untaken-row : (reading : Reading) (columns : List Column) (cells : List Cell) (further : Further) (file new_file : DataFile S shelf) (fault : DumpFault) → further ≡ row cells → Unwritten shelf columns cells file new_file fault → Untaken shelf reading columns file further new_file fault

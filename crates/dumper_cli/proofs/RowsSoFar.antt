@@ -23,9 +23,6 @@ module _ {L S : Type 0} (link : LinkGhosts L) (shelf : ShelfGhosts S) where
     pub reached : (asked : Asked) (start : Start) → Reached link asked (rows_asked columns) start old → Reached link asked (rows_come id reader columns rows) start now
     pub writes : (schema table : List ℕ) → IsWriting shelf schema table columns [] file → IsWriting shelf schema table columns rows now_file
 
-  pub SoFar-begun : (columns : List Column) (old : Session L) (file : DataFile S shelf) (reader : Reading) (now : Session L) → ((asked : Asked) (start : Start) → Reached link asked (rows_asked columns) start old → Reached link asked (rows_come 2 reader columns []) start now) → SoFar columns old file 2 reader now file
-  SoFar-begun columns old file reader now reached = record { rows = []; reached = reached; writes = λ schema table writing. writing }
-
   pub SoFar-more : (columns : List Column) (old : Session L) (file : DataFile S shelf) (id : ℕ) (reader : Reading) (mid : Session L) (mid_file : DataFile S shelf) (later : Reading) (now : Session L) (now_file : DataFile S shelf) → SoFar columns old file id reader mid mid_file → RowsGoOn link shelf id reader columns mid mid_file later now now_file → SoFar columns old file (next_id id) later now now_file
   SoFar-more columns old file id reader mid mid_file later now now_file so_far more = record {
     rows = so_far.rows ++ more.added;

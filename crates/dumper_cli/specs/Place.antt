@@ -9,9 +9,11 @@ use Rattle.result_rows.specs.declared.refusal.Refusal.{Refusal}
 use Rattle.sql_literals.specs.Literal.{Cell}
 use Rattle.dumper_cli.specs.Columns.{column_of, is_row_of}
 use Rattle.dumper_cli.specs.Greeting.{is_greeting}
-use Rattle.dumper_cli.specs.Texts.{rows_text}
+use Rattle.dumper_cli.specs.Texts.{column_names}
 use Rattle.dumper_cli.specs.Words.{Asked}
 use Rattle.dumper_cli.specs.declared.column.Column.{Column}
+use Rattle.sql_statements.specs.Text.{query_text}
+use Rattle.sql_statements.specs.declared.query.Query.TheVariants.{Rows}
 
 -- where in a dump a message of the server is read: the greeting, the answer to the login, to the set-up statement and
 -- to SET NAMES; the first message about the columns and each further one, behind so many columns; the first message
@@ -78,7 +80,7 @@ with_column next columns None = unread
 -- the table has columns, and the query for its rows is within the limit
 abbrev pub can_ask : List ℕ → List ℕ → List Column → Bool
 can_ask schema table [] = false
-can_ask schema table (column ∷ columns) = nat_le (length (rows_text schema table (column ∷ columns))) 1000000
+can_ask schema table (column ∷ columns) = nat_le (length (query_text (Rows (column_names (column ∷ columns)) schema table))) 1000000
 
 -- a further message about the columns
 abbrev pub at_columns : Asked → (Reading → List Column → Place) → Reading → List Column → Further → Turn
