@@ -1,19 +1,25 @@
--- What the bytes of a stream begin with.
-use Rattle.std.specs.Prelude.{ℕ, ◌≡◌, ◌<◌, ◌≤◌, List, ◌++◌, length, take, drop}
-use Rattle.my_packets.specs.Packet.{packet, missing, HasWrongId, IsTooLong}
+-- What a reader finds at the front of a stream.
+use Rattle.std.specs.Prelude.{ℕ, ◌≡◌, List, length}
+use Rattle.my_packets.specs.Front.{HasMessage, HasWrongId, IsTooLong, IsPart}
+use Rattle.my_packets.specs.declared.frames.FrameFault.{FrameFault}
 use Rattle.my_packets.specs.declared.frames.FrameFault.TheVariants.{BadSequence, TooLong}
 use Rattle.my_packets.specs.declared.frames.Front.{Front}
 use Rattle.my_packets.specs.declared.frames.Front.TheVariants.{Whole, Part, Wrong}
 
--- the bytes are a packet of this sequence id, whose payload is the next so many bytes behind the header, and what follows it
+-- the bytes begin with a whole message of so many bytes, without its headers
 pub record IsSplit (limit id size : ℕ) (bytes : List ℕ) : Type 0 where
-  pub fits : size ≤ limit
-  pub there : size ≤ length (drop 4 bytes)
-  pub parts : bytes ≡ packet id (take size (drop 4 bytes)) ++ drop size (drop 4 bytes)
+  pub message : List ℕ
+  pub behind : List ℕ
+  pub message_is : HasMessage limit id message bytes behind
+  pub size_is : size ≡ length message
 
--- what the bytes begin with, where the next packet has to have this sequence id
+-- why the bytes hold no further message
+abbrev pub IsWrong : ℕ → ℕ → List ℕ → FrameFault → Type 0
+IsWrong limit id bytes (BadSequence found wanted) = HasWrongId limit id found wanted bytes
+IsWrong limit id bytes (TooLong size) = IsTooLong limit id size bytes
+
+-- what the bytes begin with
 abbrev pub Begins : ℕ → ℕ → List ℕ → Front → Type 0
 Begins limit id bytes (Whole size) = IsSplit limit id size bytes
-Begins limit id bytes (Part more) = (0 < more) × (more ≡ missing limit id bytes)
-Begins limit id bytes (Wrong (BadSequence found wanted)) = (wanted ≡ id) × HasWrongId id found bytes
-Begins limit id bytes (Wrong (TooLong size)) = IsTooLong limit id size bytes
+Begins limit id bytes (Part more) = IsPart limit id more bytes
+Begins limit id bytes (Wrong fault) = IsWrong limit id bytes fault

@@ -1,4 +1,5 @@
 pub mod Begins
+pub mod Front
 pub mod Laws
 pub mod Lenenc
 pub mod Packet
