@@ -34,7 +34,7 @@ struct Announced {
 /// Reads one message, of which it keeps the first 1,024 bytes. It takes no memory.
 #[derive(Drop)]
 pub struct Skim {
-    kept: [u8; 1024],
+    kept: [u8; KEPT],
     kept_size: usize,
     stage: Stage,
     header: [u8; 4],
@@ -63,7 +63,7 @@ impl Skim {
         ensures right { fault_of result ≡ None }
     {
         Skim {
-            kept: [0; 1024],
+            kept: [0; KEPT],
             kept_size: 0,
             stage: Stage::Header,
             header: [0; 4],
