@@ -1,13 +1,46 @@
--- Packets, and what the bytes of a stream begin with (MySQL source documentation, "MySQL Packets").
-use Rattle.std.specs.Prelude.{ℕ, ◌≡◌, ◌≢◌, ◌<◌, ◌+◌, ◌-◌, ◌*◌, ◌/◌, ◌%◌, ◌==◌, ◌&&◌, nat_le, if◌then◌else◌, List, ◌∷◌, length}
+-- Packets, and the packets of a message (MySQL source documentation, "MySQL Packets").
+use Rattle.std.specs.Prelude.{ℕ, ◌≡◌, ◌+◌, ◌-◌, ◌*◌, ◌/◌, ◌%◌, ◌==◌, ◌&&◌, nat_le, if◌then◌else◌, zero, suc, List, [], ◌∷◌, ◌++◌, length, take, drop}
 
--- a packet: the payload's length in three bytes, the least significant first, the sequence id, the payload
+-- a packet's header: the payload's length in three bytes, the least significant first, and the sequence id
+abbrev pub packet_header : ℕ → ℕ → List ℕ
+packet_header size id = size % 256 ∷ size / 256 % 256 ∷ size / 65536 ∷ id ∷ []
+
+-- a packet: its header and the payload
 abbrev pub packet : ℕ → List ℕ → List ℕ
-packet id payload = length payload % 256 ∷ length payload / 256 % 256 ∷ length payload / 65536 ∷ id ∷ payload
+packet id payload = packet_header (length payload) id ++ payload
 
 -- sequence ids count modulo 256
 abbrev pub next_id : ℕ → ℕ
 next_id id = (id + 1) % 256
+
+-- the id behind so many packets
+abbrev pub id_behind : ℕ → ℕ → ℕ
+id_behind count id = (id + count) % 256
+
+-- a packet has at most so many payload bytes; with so many it is full, and the message goes on in the next packet
+abbrev pub full_size : ℕ
+full_size = 16777215
+
+-- so many full packets from this id on
+abbrev pub full_packets : ℕ → ℕ → List ℕ → List ℕ
+full_packets zero id payload = []
+full_packets (suc more) id payload = packet (id % 256) (take full_size payload) ++ full_packets more (next_id id) (drop full_size payload)
+
+-- how many full packets a message of so many bytes has in front of its last
+abbrev pub full_count : ℕ → ℕ
+full_count size = size / full_size
+
+-- the last packet of a message, which is shorter than a full one and perhaps empty
+abbrev pub last_packet : ℕ → ℕ → List ℕ → List ℕ
+last_packet count id message = packet (id_behind count id) (drop (full_size * count) message)
+
+-- the packets of a message from this id on: full ones as far as its bytes go, and the last
+unfoldable pub packets : ℕ → List ℕ → List ℕ
+packets id message = full_packets (full_count (length message)) id message ++ last_packet (full_count (length message)) id message
+
+-- how many packets a message of so many bytes has
+abbrev pub packet_count : ℕ → ℕ
+packet_count size = full_count size + 1
 
 -- the length that a header announces
 abbrev pub announced : ℕ → ℕ → ℕ → ℕ
@@ -21,17 +54,6 @@ pub record HasHeader (size id : ℕ) (bytes : List ℕ) : Type 0 where
   pub rest : List ℕ
   pub bytes_are : bytes ≡ low ∷ middle ∷ high ∷ id ∷ rest
   pub size_is : size ≡ announced low middle high
-
--- the next packet has another sequence id than it should have
-pub record HasWrongId (id found : ℕ) (bytes : List ℕ) : Type 0 where
-  pub size : ℕ
-  pub header : HasHeader size found bytes
-  pub other : found ≢ id
-
--- the next packet has the right sequence id, and is announced with more bytes than the limit
-pub record IsTooLong (limit id size : ℕ) (bytes : List ℕ) : Type 0 where
-  pub header : HasHeader size id bytes
-  pub more : limit < size
 
 -- how many bytes are missing of the header, or of the right packet, that the bytes begin; 0 where none are
 abbrev pub missing : ℕ → ℕ → List ℕ → ℕ
