@@ -35,7 +35,7 @@ pub data Turn : Type 0 where
   stopped : Refusal → Turn
   unread : Turn
 
--- the sequence id that the packet read at a place has to have
+-- the sequence id that the first packet of the message read at a place has to have
 abbrev pub id_of : Place → ℕ
 id_of greeting = 0
 id_of login = 2

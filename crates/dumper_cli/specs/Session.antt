@@ -1,12 +1,11 @@
 -- What a session hears and says.
-use Rattle.std.specs.Prelude.{◌≡◌, ◌<◌, ◌≤◌, ◌+◌, ◌-◌, ◌^◌, ◌↔◌, ◌⊎◌, ℕ, List, [], ◌∷◌, ◌++◌, length, take}
+use Rattle.std.specs.Prelude.{◌≡◌, ◌≤◌, ◌+◌, ◌-◌, ◌*◌, ◌^◌, ◌↔◌, ◌⊎◌, ℕ, List, [], ◌∷◌, ◌++◌, length, take}
 use Rattle.my_packets.specs.Front.{HasMessage, IsPart}
 use Rattle.my_packets.specs.Packet.{packet_count}
 use Rattle.link_traits.specs.Cause.{Rose}
 use Rattle.link_traits.specs.Link.{stream}
 use Rattle.link_traits.specs.declared.link.Link.{Ghosts}
 use Rattle.dumper_cli.specs.Heard.{IsWrong}
-use Rattle.dumper_cli.specs.Place.{id_past}
 use Rattle.dumper_cli.specs.declared.session.Session.{Session}
 use Rattle.dumper_cli.specs.declared.session.TheConstants.{MESSAGE_LIMIT, QUIT}
 use Rattle.dumper_cli.specs.declared.session.SessionFault.{SessionFault}
