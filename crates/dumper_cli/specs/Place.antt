@@ -1,6 +1,6 @@
 -- How a dump goes on at each message of the server.
 use Rattle.std.specs.Prelude.{ℕ, ◌==◌, nat_le, if◌then◌else◌, Bool, true, false, List, [], ◌∷◌, ◌++◌, length, Option, Some, None}
-use Rattle.my_packets.specs.Packet.{next_id}
+use Rattle.my_packets.specs.Packet.{packet_count, id_behind}
 use Rattle.result_rows.specs.Reading.{Reading, Further, definition, row, end, refused, garbled, counted, further_of, after}
 use Rattle.result_rows.specs.Reply.{refusal_of, reply_of}
 use Rattle.result_rows.specs.declared.reader.Reply.{Reply}
@@ -35,7 +35,7 @@ pub data Turn : Type 0 where
   stopped : Refusal → Turn
   unread : Turn
 
--- the sequence id that the packet read at a place has to have
+-- the sequence id that the first packet of the message read at a place has to have
 abbrev pub id_of : Place → ℕ
 id_of greeting = 0
 id_of login = 2
@@ -98,13 +98,17 @@ at_rows next reading columns rows end = whole columns rows
 at_rows next reading columns rows (refused refusal) = stopped refusal
 at_rows next reading columns rows garbled = unread
 
+-- the id behind the packets of a message
+abbrev pub id_past : ℕ → List ℕ → ℕ
+id_past id message = id_behind (packet_count (length message)) id
+
 -- what a message does at a place
 abbrev pub turn_of : Asked → Place → List ℕ → Turn
 turn_of asked greeting payload = at_greeting payload
 turn_of asked login payload = at_command set_up (reply_of payload)
 turn_of asked set_up payload = at_command set_names (reply_of payload)
 turn_of asked set_names payload = at_command columns_asked (reply_of payload)
-turn_of asked columns_asked payload = at_query (λ reading. columns_come 2 reading []) (reply_of payload)
-turn_of asked (columns_come id reading columns) payload = at_columns asked (columns_come (next_id id)) reading columns (further_of reading payload)
-turn_of asked (rows_asked columns) payload = at_query (λ reading. rows_come 2 reading columns []) (reply_of payload)
-turn_of asked (rows_come id reading columns rows) payload = at_rows (λ later. rows_come (next_id id) later columns) reading columns rows (further_of reading payload)
+turn_of asked columns_asked payload = at_query (λ reading. columns_come (id_past 1 payload) reading []) (reply_of payload)
+turn_of asked (columns_come id reading columns) payload = at_columns asked (columns_come (id_past id payload)) reading columns (further_of reading payload)
+turn_of asked (rows_asked columns) payload = at_query (λ reading. rows_come (id_past 1 payload) reading columns []) (reply_of payload)
+turn_of asked (rows_come id reading columns rows) payload = at_rows (λ later. rows_come (id_past id payload) later columns) reading columns rows (further_of reading payload)

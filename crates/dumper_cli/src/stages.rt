@@ -28,7 +28,7 @@ impl<L: Link> Session<L> {
         command_answer(self.message().payload)
     }
 
-    /// Reads the answer to a command, whose packet has this sequence id, and sends the next command.
+    /// Reads the answer to a command, whose first packet has this sequence id, and sends the next command.
     pub fn exchange(&mut self, id: u8, payload: &[u8]) -> Result<(), SessionFault>
         requires one_packet { length payload.now < 16777215 }
 
