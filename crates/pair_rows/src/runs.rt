@@ -116,6 +116,18 @@ const PLAIN: Case<'static> = Case {
     listed: None,
 };
 
+// A table of these rows, and nothing in its way.
+fn of_rows<'a>(rows: &'a [&'a [u8]]) -> Case<'a> {
+    Case {
+        words: &WORDS,
+        login: OK,
+        rows,
+        cut: 0,
+        faults: &[],
+        listed: None,
+    }
+}
+
 // The packets of these messages, from a sequence id on.
 fn packets(rt: &impl Abort, alloc: Global, first: u8, messages: &[&[u8]]) -> Result<Bytes, Fail> {
     let mut out = Vec::new(alloc);
@@ -399,11 +411,14 @@ fn a_row_of_two_packets_is_dumped_whole(rt: HostRuntime) -> Result<(), Fail> {
     let row = around_long(rt.alloc(), b"\x011\xfd\xff\xff\xff", b"")?;
     let file = around_long(rt.alloc(), FILE_FRONT, b"');\n")?;
     let rows = [b"\x02", DEFINITION, DEFINITION, EOF, row.as_slice(), EOF];
-    let case = Case {
-        rows: &rows,
-        ..PLAIN
-    };
-    check(&rt, rt.alloc(), &case, 0, Some(6), Some(file.as_slice()))
+    check(
+        &rt,
+        rt.alloc(),
+        &of_rows(&rows),
+        0,
+        Some(6),
+        Some(file.as_slice()),
+    )
 }
 
 #[test]
