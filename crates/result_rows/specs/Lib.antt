@@ -1,8 +1,8 @@
 pub mod Definition
-pub mod Padded
+pub mod KeptText
 pub mod Reading
 pub mod Reply
 pub mod ResultSet
 pub mod Row
-pub mod RowView
+pub mod RowCells
 pub mod Turns
