@@ -12,7 +12,8 @@ use Rattle.sql_statements.specs.declared.query.Query.{Query}
 use Rattle.my_session.specs.Awaited.{Awaited, further}
 use Rattle.my_session.specs.Halt.{Halts, Stops}
 use Rattle.my_session.specs.Statements.{IsRun, RunAwaits, RunSends, IsDescribed, QueryAwaits, QuerySends}
-use Rattle.my_session.specs.Wire.{Wire, Leads, Hears}
+use Rattle.my_session.specs.Login.{IsLoggedIn, LoginAwaits, LoginSends}
+use Rattle.my_session.specs.Wire.{Wire, Takes, Hears}
 use Rattle.my_session.specs.declared.fault.SessionFault.{SessionFault}
 use Rattle.my_session.specs.declared.fault.SessionFault.TheVariants.{Link, Refused, Garbled, NotProtocol10, PluginUnsupported, TooLong, StreamTooLong, OutOfMemory}
 
@@ -65,12 +66,12 @@ IsOfStatement fault = Unit {0}
 
 -- what running a command does
 abbrev pub Runs : Command → Wire → Result (Unit {0}) SessionFault → Wire → Type 0
-Runs command old (Ok done) new = (steps : _) × IsRun command steps × Leads steps old new
+Runs command old (Ok done) new = Takes (IsRun command) old new
 Runs command old (Err fault) new = Stops (RunAwaits command) (RunSends command) old fault new
 
 -- what asking a query does
 abbrev pub Asks : Query → Wire → Result ℕ SessionFault → Wire → Type 0
-Asks query old (Ok columns) new = (steps : _) × IsDescribed query steps (rows_of columns) × Leads steps old new
+Asks query old (Ok columns) new = Takes (λ steps. IsDescribed query steps (rows_of columns)) old new
 Asks query old (Err fault) new = Stops (QueryAwaits query) (QuerySends query) old fault new
 
 -- what is pending behind a query
@@ -117,3 +118,37 @@ pub record NextRow (tells : Type 0) (old : ReaderView) (result : Result (Option 
   pub has_failed : new.has_failed ≡ failed_by result
   pub pending : PendingBehindRow old.pending result new.pending
   pub takes : tells → TakesRow old.pending old.wire result new.wire
+
+module _ {L : Type 0} (of : Ghosts L) where
+  -- a link on which nothing was heard
+  abbrev pub fresh : L → Wire
+  fresh link = record { sent = (of.told link).sent; stream = stream (of.told link); place = 0; id = 0 }
+
+  -- a session that was logged in over a link
+  pub record LoggedIn (user password : List ℕ) (link : L) (session : SessionView L) : Type 0 where
+    pub tells : of.tells link ↔ of.tells session.link
+    pub later : of.faults link ≤ of.faults session.link
+    pub alive : session.has_failed ≡ false
+    pub idle : session.pending.reading ≡ idle
+    pub takes : of.tells link → Takes (IsLoggedIn user password) (fresh link) (wire_of of session)
+
+  -- the wire of a link that was given back
+  pub record IsWireOf (link : L) (wire : Wire) : Type 0 where
+    pub sent : wire.sent ≡ (of.told link).sent
+    pub stream : wire.stream ≡ stream (of.told link)
+
+  -- why a login stopped
+  pub record LoginStopped (user password : List ℕ) (link given_back : L) (fault : SessionFault) : Type 0 where
+    pub tells : of.tells link ↔ of.tells given_back
+    pub later : of.faults link ≤ of.faults given_back
+    pub failed : fault ≡ Link → Rose (of.faults link) (of.faults given_back)
+    pub wire : Wire
+    pub is_wire : IsWireOf given_back wire
+    pub stops : of.tells link → Stops (LoginAwaits user password) (LoginSends user password) (fresh link) fault wire
+
+  -- what closing a session does: COM_QUIT is sent, whatever comes of it, but not where the session has failed
+  pub record Closes (quit : List ℕ) (session : SessionView L) (link : L) : Type 0 where
+    pub tells : of.tells session.link ↔ of.tells link
+    pub later : of.faults session.link ≤ of.faults link
+    pub failed : session.has_failed ≡ true → link ≡ session.link
+    pub quits : session.has_failed ≡ false → of.tells session.link → ((of.told link).sent ≡ (of.told session.link).sent ++ quit ∷ []) ⊎ (((of.told link).sent ≡ (of.told session.link).sent) × Rose (of.faults session.link) (of.faults link))

@@ -42,3 +42,9 @@ pub data Leads : List Step → Wire → Wire → Type 0 where
   behind_command : {payload : List ℕ} {steps : List Step} {old new : Wire} → Leads steps (behind_sent 0 payload old) new → Leads (commands payload ∷ steps) old new
   behind_answer : {payload : List ℕ} {steps : List Step} {old new : Wire} → Leads steps (behind_sent old.id payload old) new → Leads (answers payload ∷ steps) old new
   behind_message : {message : List ℕ} {steps : List Step} {old middle new : Wire} → Hears message old middle → Leads steps middle new → Leads (hears message ∷ steps) old new
+
+-- steps of this kind lead from one wire to the other
+pub record Takes (IsSo : List Step → Type 0) (old new : Wire) : Type 0 where
+  pub steps : List Step
+  pub so : IsSo steps
+  pub leads : Leads steps old new
