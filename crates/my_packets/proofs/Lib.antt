@@ -1,3 +1,6 @@
 pub mod Fronts
+pub mod Joined
+pub mod Packets
+pub mod Passes
 pub mod ReadBack
 pub mod Splits

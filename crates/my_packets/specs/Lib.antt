@@ -1,5 +1,6 @@
 pub mod Begins
 pub mod Front
+pub mod Joins
 pub mod Laws
 pub mod Lenenc
 pub mod Packet

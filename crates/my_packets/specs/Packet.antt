@@ -1,5 +1,5 @@
 -- Packets, and the packets of a message (MySQL source documentation, "MySQL Packets").
-use Rattle.std.specs.Prelude.{ℕ, ◌≡◌, ◌≢◌, ◌<◌, ◌≤◌, ◌+◌, ◌-◌, ◌*◌, ◌/◌, ◌%◌, ◌==◌, ◌&&◌, nat_le, if◌then◌else◌, zero, suc, List, [], ◌∷◌, ◌++◌, length, take, drop}
+use Rattle.std.specs.Prelude.{ℕ, ◌≡◌, ◌+◌, ◌-◌, ◌*◌, ◌/◌, ◌%◌, ◌==◌, ◌&&◌, nat_le, if◌then◌else◌, zero, suc, List, [], ◌∷◌, ◌++◌, length, take, drop}
 
 -- a packet's header: the payload's length in three bytes, the least significant first, and the sequence id
 abbrev pub packet_header : ℕ → ℕ → List ℕ
@@ -24,7 +24,7 @@ full_size = 16777215
 -- so many full packets from this id on
 abbrev pub full_packets : ℕ → ℕ → List ℕ → List ℕ
 full_packets zero id payload = []
-full_packets (suc more) id payload = packet id (take full_size payload) ++ full_packets more (next_id id) (drop full_size payload)
+full_packets (suc more) id payload = packet (id % 256) (take full_size payload) ++ full_packets more (next_id id) (drop full_size payload)
 
 -- how many full packets a message of so many bytes has in front of its last
 abbrev pub full_count : ℕ → ℕ
@@ -35,7 +35,7 @@ abbrev pub last_packet : ℕ → ℕ → List ℕ → List ℕ
 last_packet count id message = packet (id_behind count id) (drop (full_size * count) message)
 
 -- the packets of a message from this id on: full ones as far as its bytes go, and the last
-abbrev pub packets : ℕ → List ℕ → List ℕ
+unfoldable pub packets : ℕ → List ℕ → List ℕ
 packets id message = full_packets (full_count (length message)) id message ++ last_packet (full_count (length message)) id message
 
 -- how many packets a message of so many bytes has

@@ -1,11 +1,14 @@
 // Bytes that came in pieces, and the messages that they hold.
-ghost use Rattle.std.specs.Prelude.{◌≡◌, ◌+◌, ◌<◌, ◌≤◌, ◌^◌, ◌++◌, [], length, drop, vec_len, IfOk, OnOk, OnErr};
+ghost use Rattle.std.specs.Prelude.{ℕ, List, ◌≡◌, ◌+◌, ◌-◌, ◌*◌, ◌<◌, ◌≤◌, ◌^◌, ◌++◌, [], length, drop, vec_len, IfOk, OnOk, OnErr};
 ghost use Rattle.std.specs.Borrow.{sem};
 ghost use Rattle.std.specs.Io.BufRead.{Rests};
-ghost use Rattle.my_packets.specs.Packet.{packet, missing};
-ghost use Rattle.my_packets.specs.Begins.{Begins};
+ghost use Rattle.my_packets.specs.Begins.{Begins, BeginsPacket};
+ghost use Rattle.my_packets.specs.Front.{Wants};
+ghost use Rattle.my_packets.specs.Joins.{Joins, IsClosed};
+ghost use Rattle.my_packets.specs.Packet.{packet_count, packets};
 ghost use Rattle.my_packets.specs.Steps.{Steps, Shows, HandsOut};
 
+use crate::frame::FULL_SIZE;
 use plain_data::OutOfMemory;
 use std::alloc::Global;
 use std::marker::Model;
@@ -20,7 +23,7 @@ pub enum FrameFault {
     /// The next packet has the first sequence id, and should have the second.
     #[error("packet {0} in place of packet {1}")]
     BadSequence(u8, u8),
-    /// The next message is announced with so many bytes, which pass the limit.
+    /// With the next packet the message is announced with so many bytes, which pass the limit.
     #[error("{0} bytes are too long")]
     TooLong(u64),
 }
@@ -28,7 +31,7 @@ pub enum FrameFault {
 /// A message of a stream.
 #[derive(Clone, Copy, Debug)]
 pub struct Message<'a> {
-    /// Its bytes, without the packet's header.
+    /// Its bytes, without the headers of its packets.
     pub payload: &'a [u8],
     /// The number of stream bytes before its first packet.
     pub place: u64,
@@ -38,10 +41,10 @@ pub struct Message<'a> {
 
 // What the bytes of a stream begin with.
 enum Front {
-    // A whole message of so many bytes, behind its header.
+    // A whole message, or a whole packet, of so many bytes without headers.
     Whole(usize),
-    // Less than a message, of which so many bytes are missing.
-    Part(usize),
+    // Less than that: so many bytes are missing of the packet or its header.
+    Part(u32),
     Wrong(FrameFault),
 }
 
@@ -49,8 +52,9 @@ enum Front {
 #[derive(Drop)]
 pub struct Frames {
     store: Vec<u8>,
-    // The payload read last is from `start` to `from`, and what is unread is behind it.
+    // The message read last is from `start` to `end`, and what is unread is behind `from`.
     start: usize,
+    end: usize,
     from: usize,
     began: u64,
     place: u64,
@@ -59,36 +63,83 @@ pub struct Frames {
 }
 
 impl Model for Frames {
-    ghost use Rattle.std.specs.Prelude.{◌+◌, ◌-◌, ◌^◌, ◌≤◌, ◌<◌, drop, slice_range, vec_len};
+    ghost use Rattle.std.specs.Prelude.{◌+◌, ◌-◌, ◌^◌, ◌≤◌, drop, slice_range, vec_len};
     ghost use Rattle.my_packets.specs.Unread.{Unread};
 
     ghost Value = { Unread };
 
-    ghost view = { λ f. record { message = slice_range f.store.items f.start f.from; began = f.began; bytes = drop f.from f.store.items; place = f.place; id = f.id; limit = f.limit } };
+    ghost view = { λ f. record { message = slice_range f.store.items f.start f.end; began = f.began; bytes = drop f.from f.store.items; place = f.place; id = f.id; limit = f.limit } };
 
-    ghost invariant = { λ f. (f.start ≤ f.from) × (f.from ≤ vec_len f.store) × (f.place + (vec_len f.store - f.from) ≤ 2 ^ 62) × (f.limit < 16777215) };
+    ghost invariant = { λ f. (f.start ≤ f.end) × (f.end ≤ f.from) × (f.from ≤ vec_len f.store) × (f.place + (vec_len f.store - f.from) ≤ 2 ^ 62) };
 }
 
-// What the bytes begin with, where the next packet has to have this sequence id.
+// What the packet in front is, where it has to have this sequence id and its message has room for so
+// many bytes more.
 #[inline]
-#[tactic(auto, using(crate::proofs::Splits::wrong_id))]
-fn front_of(bytes: &[u8], id: u8, limit: u32) -> Front
-    ensures { Begins limit id bytes.now result }
+#[tactic(auto, using(crate::proofs::Splits::packet_of_other))]
+fn packet_front(bytes: &[u8], id: u8, room: u32) -> Front
+    ensures { BeginsPacket room id bytes.now result }
 {
     let [low, middle, high, found, payload @ ..] = bytes else {
-        return Front::Part(4 - bytes.len());
+        return Front::Part(4 - bytes.len() as u32);
     };
     let size = *low as usize + 256 * *middle as usize + 65536 * *high as usize;
     if *found != id {
         return Front::Wrong(FrameFault::BadSequence(*found, id));
     }
-    if size > limit as usize {
+    if size > room as usize {
         return Front::Wrong(FrameFault::TooLong(size as u64));
     }
     if payload.len() < size {
-        return Front::Part(size - payload.len());
+        return Front::Part((size - payload.len()) as u32);
     }
     Front::Whole(size)
+}
+
+// What the bytes begin with, where the next packet has to have this sequence id.
+#[inline]
+fn front_of(bytes: &[u8], id: u8, limit: u32) -> Front
+    ensures { Begins limit id bytes.now result }
+{
+    match packet_front(bytes, id, limit) {
+        Front::Whole(size) => {
+            if size < FULL_SIZE {
+                return Front::Whole(size);
+            }
+            front_of_full(bytes, id, limit)
+        }
+        Front::Part(more) => Front::Part(more),
+        Front::Wrong(fault) => Front::Wrong(fault),
+    }
+}
+
+// The same; the first packet may be full.
+fn front_of_full(bytes: &[u8], id: u8, limit: u32) -> Front
+    ensures { Begins limit id bytes.now result }
+{
+    let mut rest = bytes;
+    let mut next = id;
+    let mut before = 0;
+    'packets: loop {
+        match packet_front(rest, next, limit - before) {
+            Front::Whole(size) => {
+                if size < FULL_SIZE {
+                    return Front::Whole(before as usize + size);
+                }
+                let (_, behind) = rest.split_at(FULL_SIZE + 4);
+                rest = behind;
+                next = next.wrapping_add(1);
+                before += FULL_SIZE as u32;
+            }
+            Front::Wrong(FrameFault::TooLong(size)) => {
+                return Front::Wrong(FrameFault::TooLong(u64::from(before) + size));
+            }
+            Front::Wrong(FrameFault::BadSequence(found, wanted)) => {
+                return Front::Wrong(FrameFault::BadSequence(found, wanted));
+            }
+            Front::Part(more) => return Front::Part(more),
+        }
+    }
 }
 
 // Gives up so many bytes at the front.
@@ -102,19 +153,50 @@ fn give_up_front(store: &mut Vec<u8>, count: usize)
     store.truncate(left);
 }
 
+// Closes the gaps that the headers of a message's further packets leave in it.
+#[inline]
+fn join(store: &mut Vec<u8>, from: usize, size: usize)
+    requires in_store { from + size + 4 * packet_count size ≤ vec_len store.old }
+
+    ensures length { vec_len store.new ≡ vec_len store.old }
+    ensures joined { (id : ℕ) (message behind : List ℕ) → drop from store.old.items ≡ packets id message ++ behind → size ≡ length message → Joins from message behind store.new.items }
+{
+    if FULL_SIZE <= size {
+        close_gaps(store, from + 4 + FULL_SIZE, size - FULL_SIZE);
+    }
+}
+
+// Moves the payload of the packets that begin at `end`, so many bytes, to `end`, each byte once.
+fn close_gaps(store: &mut Vec<u8>, end: usize, size: usize)
+    requires in_store { end + size + 4 * packet_count size ≤ vec_len store.old }
+
+    ensures length { vec_len store.new ≡ vec_len store.old }
+    ensures joined { (id : ℕ) (message behind : List ℕ) → drop end store.old.items ≡ packets id message ++ behind → size ≡ length message → IsClosed end message behind store.old.items store.new.items }
+{
+    let mut to = end;
+    let mut packet = end;
+    let mut left = size;
+    'full_packets: while FULL_SIZE <= left {
+        store.copy_within(packet + 4..packet + 4 + FULL_SIZE, to);
+        to += FULL_SIZE;
+        packet += FULL_SIZE + 4;
+        left -= FULL_SIZE;
+    }
+    store.copy_within(packet + 4..packet + 4 + left, to);
+}
+
 impl Frames {
     ghost use Rattle.my_packets.specs.contracts.frames.Frames.{the_row};
 
     /// A stream of which nothing was fed, whose first packet has sequence id 0. A message may have at
-    /// most `limit` bytes. Takes no memory.
+    /// most `limit` bytes, in all of its packets. Takes no memory.
     pub fn new(alloc: Global, limit: u32) -> Frames
-        requires one_packet { limit < 16777215 }
-
         ensures { result ≡ record { message = []; began = 0; bytes = []; place = 0; id = 0; limit = limit } }
     {
         Frames {
             store: Vec::new(alloc),
             start: 0,
+            end: 0,
             from: 0,
             began: 0,
             place: 0,
@@ -145,6 +227,7 @@ impl Frames {
             self.from = 0;
         }
         self.start = self.from;
+        self.end = self.from;
         self.store.extend_from_slice(piece)?;
         Ok(())
     }
@@ -152,11 +235,12 @@ impl Frames {
     /// How many bytes are missing of the packet header or the packet that is being read; 0 exactly
     /// where [`Frames::next`] wouldn't answer `None`. Takes no memory.
     pub fn wants(&self) -> u32
-        ensures { result ≡ missing self.now.limit self.now.id self.now.bytes }
+        ensures { Wants self.now.limit self.now.id self.now.bytes result }
     {
         match front_of(&self.store[self.from..], self.id, self.limit) {
-            Front::Part(more) => more as u32,
-            Front::Whole(_) | Front::Wrong(_) => 0,
+            Front::Part(more) => more,
+            Front::Whole(_) => 0,
+            Front::Wrong(_) => 0,
         }
     }
 
@@ -167,11 +251,15 @@ impl Frames {
     {
         match front_of(&self.store[self.from..], self.id, self.limit) {
             Front::Whole(size) => {
+                let packets = size / FULL_SIZE + 1;
+                let passed = size + 4 * packets;
+                join(&mut self.store, self.from, size);
                 self.began = self.place;
                 self.start = self.from + 4;
-                self.from = self.start + size;
-                self.place += 4 + size as u64;
-                self.id = self.id.wrapping_add(1);
+                self.end = self.start + size;
+                self.from += passed;
+                self.place += passed as u64;
+                self.id = self.id.wrapping_add((packets % 256) as u8);
                 Ok(true)
             }
             Front::Part(_) => Ok(false),
@@ -185,7 +273,7 @@ impl Frames {
         ensures { Shows result self.now }
     {
         Message {
-            payload: &self.store[self.start..self.from],
+            payload: &self.store[self.start..self.end],
             place: self.began,
             next_seq: self.id,
         }
@@ -216,7 +304,6 @@ mod tests {
 
     // A reader that awaits packet 1, as of an answer.
     fn answer(alloc: Global, limit: u32) -> Frames
-        requires { limit < 16777215 }
         ensures bytes { result.bytes ≡ [] }
         ensures place { result.place ≡ 0 }
     {
@@ -285,8 +372,7 @@ mod tests {
     // Passes over the whole messages, by `next` alone, and answers how many bytes of the stream they are.
     fn pass_messages(frames: &mut Frames) -> Result<u64, FrameFault>
         requires { frames.old.place + length frames.old.bytes ≤ 2 ^ 62 }
-        ensures passed { IfOk result (λ size. frames.new.place ≡ frames.old.place + size) }
-        ensures left { IfOk result (λ _. 0 < missing frames.new.limit frames.new.id frames.new.bytes) }
+        ensures { IfOk result (λ size. frames.new.place ≡ frames.old.place + size) }
     {
         let mut size = 0;
         'messages: for _ in 0..u64::MAX {

@@ -9,17 +9,18 @@ pub fn lenenc_is_read_back()
     ensures { LenencIsReadBack }
 {}
 
-/// A law: two packets of one sequence id that begin the same bytes are the same packet. Does
-/// nothing.
+/// A law: two messages whose packets from one sequence id begin the same bytes are the same
+/// message. Does nothing.
 #[inline]
-#[tactic(auto, using(crate::proofs::Fronts::same_packet))]
+#[tactic(auto, using(crate::proofs::Fronts::same_packets))]
 pub fn packets_are_prefix_free()
     ensures { PacketsArePrefixFree }
 {}
 
-/// A law: bytes begin with a whole message within the limit, or with a packet of another id, or with
-/// one past the limit, or bytes of a message are missing, and never two of these. The other id and
-/// the length past the limit are one each. Does nothing.
+/// A law: bytes begin with a whole message within the limit, or a packet has another id than it
+/// should have, or the message is announced past the limit, or bytes of it are missing, and never
+/// two of these. The ids, the length past the limit and the number of missing bytes are one each.
+/// Does nothing.
 #[inline]
 #[tactic(auto, using(crate::proofs::Fronts::one_front))]
 pub fn a_front_is_one_thing()

@@ -1,7 +1,8 @@
-//! The packets of the MySQL client/server protocol: length-encoded integers, the packet that a
+//! The packets of the MySQL client/server protocol: length-encoded integers, the packets that a
 //! message is sent in, and the messages of a stream of bytes that comes in any pieces.
 //!
-//! A message has one packet here: its payload is below 16,777,215 bytes long.
+//! A packet has at most 16,777,215 payload bytes. One with so many is continued by the next packet; the
+//! last packet of a message has fewer, perhaps none.
 #![tactic(auto)]
 
 mod frame;
@@ -9,7 +10,7 @@ mod frames;
 mod laws;
 mod lenenc;
 
-pub use frame::frame_into;
+pub use frame::{frame_into, header};
 pub use frames::{FrameFault, Frames, Message};
 pub use laws::{a_front_is_one_thing, lenenc_is_read_back, packets_are_prefix_free};
 pub use lenenc::{lenenc_into, lenenc_read};

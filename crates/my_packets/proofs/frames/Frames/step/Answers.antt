@@ -1,18 +1,30 @@
 use Rattle.std.proofs.Common.{arith, refl}
-use Rattle.my_packets.proofs.Splits.{to_the_end, payload_length, message_in_store}
+use Rattle.my_packets.proofs.Passes.{to_the_end, whole_within, stands}
 use Rattle.my_packets.proofs.frames.Frames.step.Goals as goal
+
+pub join-requires : goal.join-requires
+join-requires c =
+    let frames = c.self.inside in
+    let split = to_the_end frames.store.items _ frames.limit frames.id frames.from c.in-Whole.size c.deref.ensures.value c.in-Whole.ensures in
+    let within = whole_within frames.limit frames.id frames.from c.in-Whole.size frames.store.items split (omega arith) in
+    omega arith
+
+pub invariant_of-self : goal.invariant_of-self
+invariant_of-self c =
+    let frames = c.self.inside in
+    let split = to_the_end frames.store.items _ frames.limit frames.id frames.from c.in-Whole.size c.deref.ensures.value c.in-Whole.ensures in
+    let within = whole_within frames.limit frames.id frames.from c.in-Whole.size frames.store.items split (omega arith) in
+    (omega arith, omega arith, omega arith, omega arith)
 
 pub returns-in-Whole : goal.returns-in-Whole
 returns-in-Whole c =
     let frames = c.self.inside in
-    let store = frames.store.items in
-    let split = to_the_end store frames.limit frames.id frames.from c.in-Whole.size (rw c.deref.ensures.value at c.in-Whole.ensures) in
-    let size = payload_length store frames.from c.in-Whole.size split.there in
+    let split = to_the_end frames.store.items _ frames.limit frames.id frames.from c.in-Whole.size c.deref.ensures.value c.in-Whole.ensures in
+    let stood = stands frames.limit frames.id frames.from c.in-Whole.size frames.store.items c.join.new.store.items split c.join.ensures.joined in
     rw (← c.self.view_is) record {
-      short = omega (arith, size, split.fits);
-      bytes = message_in_store store frames.limit frames.id frames.from c.in-Whole.size split;
+      message = stood.message_is;
       began = refl;
-      place = omega (arith, size);
-      id = refl;
+      place = let size_is = stood.size_is in omega arith;
+      id = let size_is = stood.size_is in omega arith;
       limit = refl;
     }
