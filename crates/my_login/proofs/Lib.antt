@@ -1,0 +1,3 @@
+pub mod Responses
+mod Sizes
+mod Xors

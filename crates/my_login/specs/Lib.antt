@@ -1,0 +1,5 @@
+pub mod Answer
+pub mod Greeting
+pub mod Response
+pub mod Switch
+pub mod Texts

@@ -1,0 +1,17 @@
+//! The login of the MySQL protocol, as calls over the payloads of its messages: the greeting, the
+//! response to it, the answer of `mysql_native_password` to a scramble, and the request for another
+//! plugin. Nothing is sent or received here.
+#![tactic(auto)]
+
+mod answer;
+mod fault;
+mod greeting;
+mod response;
+mod switch;
+mod texts;
+
+pub use answer::native_answer;
+pub use fault::LoginFault;
+pub use greeting::Greeting;
+pub use response::response_into;
+pub use switch::Switch;
