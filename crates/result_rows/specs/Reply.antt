@@ -1,5 +1,5 @@
 -- The packets that end a reply, and a reply's first message (MySQL source documentation, OK_Packet, ERR_Packet, EOF_Packet, COM_QUERY Response).
-use Rattle.std.specs.Prelude.{ℕ, ◌+◌, ◌*◌, ◌==◌, ◌&&◌, nat_le, nat_lt, if◌then◌else◌, Bool, false, List, [], ◌∷◌, length, take, drop, Option, Some, None, option_and_then, option_map, codes}
+use Rattle.std.specs.Prelude.{ℕ, ◌≡◌, ◌+◌, ◌*◌, ◌==◌, ◌&&◌, nat_le, nat_lt, if◌then◌else◌, Bool, false, List, [], ◌∷◌, length, take, drop, Option, Some, None, option_and_then, option_map, codes}
 use Rattle.std.specs.Option.{option_map_or}
 use Rattle.my_packets.specs.Lenenc.{lenenc_of}
 use Rattle.result_rows.specs.Definition.{column_count}
@@ -44,3 +44,7 @@ reply_of (byte ∷ bytes) =
     if byte == 0 then (if is_ok_packet (byte ∷ bytes) then Some Done else None) else
     (if byte == 255 then option_map (λ refusal. Refused refusal) (refusal_of (byte ∷ bytes)) else
     option_map (λ count. Columns count) (column_count (byte ∷ bytes)))
+
+-- the first 1,024 bytes of a reply's first message tell what it is
+abbrev pub AFrontTellsAReply : Type 0
+AFrontTellsAReply = (payload : List ℕ) → reply_of (take 1024 payload) ≡ reply_of payload

@@ -1,19 +1,24 @@
 -- What a reader of replies answers.
-use Rattle.std.specs.Prelude.{ℕ, ◌≡◌, Option, Some, None, Result, Ok, Err}
+use Rattle.std.specs.Prelude.{ℕ, ◌≡◌, ◌==◌, if◌then◌else◌, List, [], ◌∷◌, Option, Some, None, Result, Ok, Err}
 use Rattle.result_rows.specs.Reading.{Reading, Further, definition, row, end, refused, garbled, counted, idle}
 use Rattle.result_rows.specs.declared.reader.Reply.{Reply}
 use Rattle.result_rows.specs.declared.reader.Reply.TheVariants.{Done, Refused, Columns}
 use Rattle.result_rows.specs.declared.reader.ReplyFault.{ReplyFault}
-use Rattle.result_rows.specs.declared.reader.ReplyFault.TheVariants.{Garbled}
+use Rattle.result_rows.specs.declared.reader.ReplyFault.TheVariants.{Garbled, LocalInfile}
 use Rattle.result_rows.specs.declared.reader.Turn.{Turn}
 use Rattle.result_rows.specs.declared.reader.Turn.TheVariants.{Definition, Row, End, Refused as TurnRefused}
 
+-- what is answered to a first message that spells no reply: fb asks for a local file
+abbrev pub unspelled : List ℕ → ReplyFault
+unspelled [] = Garbled
+unspelled (byte ∷ bytes) = if byte == 251 then LocalInfile else Garbled
+
 -- the answer to a reply's first message, and what is pending behind it
-abbrev pub IsReply : Option Reply → Result Reply ReplyFault → Reading → Type 0
-IsReply None result new = (result ≡ Err Garbled) × (new ≡ idle)
-IsReply (Some Done) result new = (result ≡ Ok Done) × (new ≡ idle)
-IsReply (Some (Refused refusal)) result new = (result ≡ Ok (Refused refusal)) × (new ≡ idle)
-IsReply (Some (Columns count)) result new = (result ≡ Ok (Columns count)) × (new ≡ counted count)
+abbrev pub IsReply : List ℕ → Option Reply → Result Reply ReplyFault → Reading → Type 0
+IsReply payload None result new = (result ≡ Err (unspelled payload)) × (new ≡ idle)
+IsReply payload (Some Done) result new = (result ≡ Ok Done) × (new ≡ idle)
+IsReply payload (Some (Refused refusal)) result new = (result ≡ Ok (Refused refusal)) × (new ≡ idle)
+IsReply payload (Some (Columns count)) result new = (result ≡ Ok (Columns count)) × (new ≡ counted count)
 
 -- the answer to a further message, which began at this place of the stream
 abbrev pub IsTurn : ℕ → Result Turn ReplyFault → Further → Type 0
@@ -22,3 +27,4 @@ IsTurn place (Ok (Row found)) further = (further ≡ row found.cells) × (found.
 IsTurn place (Ok End) further = further ≡ end
 IsTurn place (Ok (TurnRefused refusal)) further = further ≡ refused refusal
 IsTurn place (Err Garbled) further = further ≡ garbled
+IsTurn place (Err LocalInfile) further = ⊥

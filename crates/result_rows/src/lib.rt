@@ -10,7 +10,7 @@ mod row;
 mod short_text;
 
 pub use fields::is_ok_packet;
-pub use laws::a_whole_result_set_is_what_the_reader_takes;
+pub use laws::{a_front_tells_a_reply, a_whole_result_set_is_what_the_reader_takes};
 pub use reader::{Reply, ReplyFault, RowReader, Turn};
 pub use refusal::Refusal;
 pub use row::{Cells, Row};

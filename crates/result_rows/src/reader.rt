@@ -41,6 +41,10 @@ pub enum ReplyFault {
     /// It has another form than a reply may have at this place.
     #[error("the server's reply is garbled")]
     Garbled,
+    /// It asks for a local file, which this client never sends. (MySQL source documentation,
+    /// `LOCAL INFILE Request`.)
+    #[error("the server asks for a local file")]
+    LocalInfile,
 }
 
 /// A reader of replies, which knows how many messages of a result set are still awaited before its
@@ -72,11 +76,12 @@ impl RowReader {
         }
     }
 
-    /// Reads the first message of a reply. `Garbled` exactly where it is no OK, no ERR, and no number
-    /// of columns from 1 to 65,535. Behind `Columns` the messages of a result set are pending, behind
-    /// any other answer nothing is. Takes no memory.
+    /// Reads the first message of a reply. `LocalInfile` exactly where it begins with 0xfb, and
+    /// `Garbled` exactly where it is no OK, no ERR, no number of columns from 1 to 65,535, and doesn't
+    /// begin so. Behind `Columns` the messages of a result set are pending, behind any other answer
+    /// nothing is. Takes no memory.
     pub fn first(&mut self, payload: &[u8]) -> Result<Reply, ReplyFault>
-        ensures { IsReply (reply_of payload.now) result self.new }
+        ensures { IsReply payload.now (reply_of payload.now) result self.new }
     {
         self.columns = 0;
         self.awaited = 0;
@@ -87,6 +92,7 @@ impl RowReader {
                 Some(refusal) => Ok(Reply::Refused(refusal)),
                 None => Err(ReplyFault::Garbled),
             },
+            [0xfb, ..] => Err(ReplyFault::LocalInfile),
             _ => {
                 let columns = column_count(payload).ok_or(ReplyFault::Garbled)?;
                 self.columns = columns;
@@ -178,6 +184,7 @@ mod tests {
             Ok(Turn::End) => "end",
             Ok(Turn::Refused(_)) => "refused",
             Err(ReplyFault::Garbled) => "garbled",
+            Err(ReplyFault::LocalInfile) => "local infile",
         }
     }
 
@@ -211,7 +218,7 @@ mod tests {
             (b"\xfc\x00\x00", "garbled"),
             (b"\xfd\x00\x00\x01", "garbled"),
             (b"\x01\x00", "garbled"),
-            (b"\xfb/etc/passwd", "garbled"),
+            (b"\xfb/etc/passwd", "local infile"),
             (b"", "garbled"),
         ];
         for (payload, want) in cases {
@@ -220,6 +227,7 @@ mod tests {
                 Ok(Reply::Refused(_)) => "refused",
                 Ok(Reply::Columns(_)) => "columns",
                 Err(ReplyFault::Garbled) => "garbled",
+                Err(ReplyFault::LocalInfile) => "local infile",
             };
             assert_eq!(rt; found, want, "of {payload:?}");
         }
