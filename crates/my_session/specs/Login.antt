@@ -1,7 +1,7 @@
 -- Logging in (MySQL source documentation, "Connection Phase", Protocol::AuthSwitchRequest, Protocol::AuthSwitchResponse).
 use Rattle.std.specs.Prelude.{ℕ, ◌≡◌, ◌⊎◌, List, [], ◌∷◌, ◌++◌, Option, Some, None, Ok}
 use Rattle.my_login.specs.Greeting.{greeting_of}
-use Rattle.my_login.specs.NativeAnswer.{native_answer}
+use Rattle.my_login.specs.Answer.{native_answer}
 use Rattle.my_login.specs.Response.{response}
 use Rattle.my_login.specs.Switch.{switch_of}
 use Rattle.my_login.specs.declared.greeting.Greeting.{Greeting}
