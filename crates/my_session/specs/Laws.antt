@@ -1,5 +1,5 @@
 -- What follows from the definitions of what a session hears.
-use Rattle.std.specs.Prelude.{ℕ, ◌≡◌, ◌×◌, List}
+use Rattle.std.specs.Prelude.{ℕ, ◌≡◌, List}
 use Rattle.my_packets.specs.Front.{IsTooLong}
 use Rattle.my_session.specs.Halt.{OutOfOrder, IsFull}
 use Rattle.my_session.specs.Wire.{Wire, Hears, within}
