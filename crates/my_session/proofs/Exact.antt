@@ -6,6 +6,7 @@ use Rattle.std.proofs.lemmas.List.{append-nil, length-take-le, nil_from_length}
 use Rattle.my_packets.proofs.Fronts.{one_front}
 use Rattle.my_packets.specs.Front.{HasFull, HasMessage, IsPart}
 use Rattle.my_packets.specs.Packet.{packets, full_packets, id_behind, missing}
+use Rattle.my_session.specs.Receiving.{IsExact}
 
 -- bytes that are fewer than those that are missing leave the others missing
 missing_less : (room id : ℕ) (bytes piece : List ℕ) → length piece < missing room id bytes → missing room id (bytes ++ piece) ≡ missing room id bytes - length piece
@@ -61,10 +62,6 @@ exact_by limit id more bytes (y ∷ piece) message (b ∷ behind) part fits whol
     absurd ((one_front limit id (bytes ++ front)).message_is_whole (more - length front) message (take (length behind) (b ∷ behind))
     (record { short = whole.short; bytes_are = shorter bytes piece (packets id message) y b behind whole.bytes_are })
     (still_part limit id more bytes front part (omega arith)))
-
--- the bytes hold a message and nothing behind it, or they hold no message
-pub record IsExact (limit id : ℕ) (bytes : List ℕ) : Type 0 where
-  pub ends : (message behind : List ℕ) → HasMessage limit id message bytes behind → behind ≡ []
 
 pub exact_at_first : (limit id : ℕ) (bytes : List ℕ) → bytes ≡ [] → IsExact limit id bytes
 exact_at_first limit id bytes none = record {

@@ -1,3 +1,5 @@
 pub mod Exact
 pub mod OneNext
+pub mod Receipts
+pub mod Sending
 pub mod Within

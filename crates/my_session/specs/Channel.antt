@@ -1,4 +1,4 @@
--- A link and the message that was heard last on it.
+-- A link, what is sent on it, and the message that was heard last on it.
 use Rattle.std.specs.Prelude.{ℕ, ◌≡◌, Bool, List, take}
 use Rattle.link_traits.specs.Link.{stream}
 use Rattle.link_traits.specs.declared.link.Link.{Ghosts}
@@ -6,21 +6,27 @@ use Rattle.my_session.specs.Wire.{Wire, Hears}
 use Rattle.my_session.specs.declared.fault.SessionFault.{SessionFault}
 use Rattle.my_session.specs.declared.fault.SessionFault.TheVariants.{Refused, NotProtocol10, PluginUnsupported}
 
+-- a link, how many bytes were heard on it, the sequence id of the next packet, whether it has failed, and the message that was heard last and its place
 pub record ChannelView (L : Type 0) : Type 0 where
   pub link : L
   pub place : ℕ
   pub id : ℕ
   pub has_failed : Bool
   pub message : List ℕ
+  pub began : ℕ
 
--- what goes over it
-abbrev pub channel_wire : {L : Type 0} → Ghosts L → ChannelView L → Wire
-channel_wire of channel = record {
-  sent = (of.told channel.link).sent;
-  stream = stream (of.told channel.link);
-  place = channel.place;
-  id = channel.id;
+-- what goes over a link on which so many bytes were heard
+abbrev pub wire_at : {L : Type 0} → Ghosts L → L → ℕ → ℕ → Wire
+wire_at of link place id = record {
+  sent = (of.told link).sent;
+  stream = stream (of.told link);
+  place = place;
+  id = id;
 }
+
+-- what goes over a channel
+abbrev pub channel_wire : {L : Type 0} → Ghosts L → ChannelView L → Wire
+channel_wire of channel = wire_at of channel.link channel.place channel.id
 
 -- a message was heard whose front was kept
 pub record Skimmed (kept : List ℕ) (old new : Wire) : Type 0 where

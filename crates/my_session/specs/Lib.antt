@@ -1,5 +1,6 @@
 pub mod Wire
 pub mod Channel
+pub mod Receiving
 pub mod Awaited
 pub mod Halt
 pub mod Statements

@@ -2,6 +2,7 @@
 //! out one by one as they come.
 #![tactic(auto)]
 
+mod channel;
 mod fault;
 mod laws;
 mod limits;

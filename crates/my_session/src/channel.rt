@@ -1,0 +1,290 @@
+// A link, what is sent on it, and the messages that are heard on it.
+ghost use Rattle.std.specs.Prelude.{◌≡◌, ◌<◌, ◌≤◌, ◌↔◌, ◌+◌, ◌++◌, ◌∷◌, [], length, take, false, true, IfErr, OnOk, OnErr, Err};
+ghost use Rattle.link_traits.specs.Link.{stream};
+ghost use Rattle.my_packets.specs.Front.{Wants};
+ghost use Rattle.my_packets.specs.Packet.{packet};
+ghost use Rattle.my_packets.specs.Steps.{Passes};
+ghost use Rattle.my_session.specs.Channel.{ChannelView, channel_wire, wire_at, IsOfChannel};
+ghost use Rattle.my_session.specs.Halt.{Misheard, Silent, Unsaid};
+ghost use Rattle.my_session.specs.Receiving.{Fetches, Unfetched, Unsettled};
+ghost use Rattle.my_session.specs.Session.{IsCounted, failed_by};
+ghost use Rattle.my_session.specs.Wire.{Hears, behind_sent};
+
+use crate::fault::SessionFault;
+use crate::limits::{MESSAGE_LIMIT, PIECE, SESSION_LIMIT, SHORT_TEXT};
+use link_traits::Link;
+use my_packets::{FrameFault, Frames, Message, frame_into, header};
+use std::alloc::Global;
+use std::marker::Model;
+
+// A payload of at most so many bytes, COM_QUERY and a short text, is sent without taking memory.
+const SHORT_PAYLOAD: usize = SHORT_TEXT + 1;
+
+const SHORT_PACKET: usize = SHORT_PAYLOAD + 4;
+
+/// A link, and the message that was heard last on it.
+#[derive(Drop)]
+pub struct Channel<L> {
+    link: L,
+    frames: Frames,
+    // The packets that are being sent, where they are long.
+    packets: Vec<u8>,
+    // How many bytes were received, and how many of them before the message that was heard last.
+    taken: u64,
+    began: u64,
+    // The sequence id of the next packet.
+    id: u8,
+    has_failed: bool,
+}
+
+impl<L> Model for Channel<L> {
+    ghost use Rattle.std.specs.Prelude.{◌≡◌, ◌≤◌, ◌^◌, [], false};
+    ghost use Rattle.my_session.specs.Channel.{ChannelView};
+
+    ghost Value = { ChannelView L };
+
+    ghost view = { λ c. record { link = c.link; place = c.taken; id = c.id; has_failed = c.has_failed; message = c.frames.message; began = c.began } };
+
+    ghost invariant = { λ c. (c.taken ≤ 2 ^ 62) × (c.frames.limit ≡ 67108864) × (c.frames.place ≤ c.taken) × (c.has_failed ≡ false → c.frames.bytes ≡ []) };
+}
+
+// How many bytes to ask the link for, where so many are wanted and so many were received.
+fn room(wants: u32, taken: u64) -> usize
+    requires wants { 0 < wants }
+    requires within { taken ≤ SESSION_LIMIT }
+
+    ensures piece { result ≤ PIECE }
+    ensures wanted { result ≤ wants }
+    ensures within { taken + result ≤ SESSION_LIMIT }
+    ensures none { result ≡ 0 → taken ≡ SESSION_LIMIT }
+{
+    let left = (SESSION_LIMIT - taken).min(PIECE as u64) as usize;
+    left.min(wants as usize)
+}
+
+// Takes some bytes off the link, no more than are wanted.
+fn fetch<L: Link>(
+    link: &mut L,
+    frames: &mut Frames,
+    taken: &mut u64,
+    wants: u32,
+) -> Result<(), SessionFault>
+    requires wants { 0 < wants }
+    requires within { taken.old ≤ SESSION_LIMIT }
+    requires place { frames.old.place + length frames.old.bytes ≤ taken.old }
+
+    ensures tells { L.tells link.old ↔ L.tells link.new }
+    ensures counted { IsCounted (L.faults link.old) (L.faults link.new) result }
+    ensures within { taken.new ≤ SESSION_LIMIT }
+    ensures later { taken.old ≤ taken.new }
+    ensures place { frames.new.place ≡ frames.old.place }
+    ensures limit { frames.new.limit ≡ frames.old.limit }
+    ensures fetches { OnOk result (Fetches L.Link wants link.old link.new frames.old frames.new taken.old taken.new) }
+    ensures sent { L.tells link.old → (L.told link.new).sent ≡ (L.told link.old).sent }
+    ensures err { IfErr result (Unfetched taken.old) }
+{
+    let room = room(wants, *taken);
+    if room == 0 {
+        return Err(SessionFault::StreamTooLong);
+    }
+    let mut piece = [0; PIECE];
+    let count = match link.recv(&mut piece[..room]) {
+        Ok(count) => count,
+        Err(_) => return Err(SessionFault::Link),
+    };
+    if frames.feed(&piece[..count]).is_err() {
+        return Err(SessionFault::OutOfMemory);
+    }
+    *taken += count as u64;
+    Ok(())
+}
+
+// Reads the message that the bytes hold, or finds what is wrong with them.
+fn settle(frames: &mut Frames, began: u64) -> Result<(), SessionFault>
+    requires settled { Wants frames.old.limit frames.old.id frames.old.bytes 0 }
+
+    ensures ok { OnOk result (Passes frames.old frames.new) }
+    ensures err { IfErr result (Unsettled frames.old began) }
+    ensures same { OnErr result (frames.new ≡ frames.old) }
+{
+    match frames.step() {
+        Ok(true) => Ok(()),
+        Ok(false) => unreachable!(),
+        Err(FrameFault::BadSequence(_, _)) => Err(SessionFault::Garbled(began)),
+        Err(FrameFault::TooLong(size)) => Err(SessionFault::TooLong(size)),
+    }
+}
+
+// Takes the next message off the link.
+fn receive<L: Link>(
+    link: &mut L,
+    frames: &mut Frames,
+    taken: &mut u64,
+) -> Result<(), SessionFault>
+    requires empty { frames.old.bytes ≡ [] }
+    requires limit { frames.old.limit ≡ 67108864 }
+    requires place { frames.old.place ≤ taken.old }
+    requires within { taken.old ≤ SESSION_LIMIT }
+
+    ensures tells { L.tells link.old ↔ L.tells link.new }
+    ensures counted { IsCounted (L.faults link.old) (L.faults link.new) result }
+    ensures kind { IfErr result IsOfChannel }
+    ensures limit { frames.new.limit ≡ 67108864 }
+    ensures place { frames.new.place ≤ taken.new }
+    ensures within { taken.new ≤ SESSION_LIMIT }
+    ensures empty { OnOk result (frames.new.bytes ≡ []) }
+    ensures heard { OnOk result (L.tells link.old → Hears frames.new.message (wire_at L.Link link.old taken.old frames.old.id) (wire_at L.Link link.new taken.new frames.new.id)) }
+    ensures err { IfErr result (λ fault. L.tells link.old → Misheard (wire_at L.Link link.old taken.old frames.old.id) fault (wire_at L.Link link.new taken.new frames.new.id)) }
+{
+    let began = *taken;
+    'pieces: loop {
+        let wants = frames.wants();
+        if wants == 0 {
+            return settle(frames, began);
+        }
+        if let Err(fault) = fetch(link, frames, taken, wants) {
+            return Err(fault);
+        }
+    }
+}
+
+// Sends the packets of a payload.
+#[tactic(auto, using(crate::proofs::Sending::stream_answered))]
+fn send<L: Link>(link: &mut L, packets: &[u8]) -> Result<(), SessionFault>
+    ensures tells { L.tells link.old ↔ L.tells link.new }
+    ensures counted { IsCounted (L.faults link.old) (L.faults link.new) result }
+    ensures fault { IfErr result (λ fault. fault ≡ SessionFault.Link) }
+    ensures sent { OnOk result (L.tells link.old → (L.told link.new).sent ≡ (L.told link.old).sent ++ packets.now ∷ []) }
+    ensures stream { OnOk result (L.tells link.old → stream (L.told link.new) ≡ stream (L.told link.old)) }
+    ensures silent { OnErr result (L.tells link.old → (L.told link.new).sent ≡ (L.told link.old).sent) }
+{
+    match link.send(packets) {
+        Ok(()) => Ok(()),
+        Err(_) => Err(SessionFault::Link),
+    }
+}
+
+// Writes a payload's one packet to the front.
+fn spell_packet(packet: &mut [u8], id: u8, payload: &[u8])
+    requires room { length payload.now + 4 ≤ length packet.old }
+    requires one_packet { length payload.now < 16777215 }
+
+    ensures { take (length payload.now + 4) packet.new ≡ packet id payload.now }
+{
+    let size = payload.len();
+    let (front, rest) = packet.split_at_mut(4);
+    front.copy_from_slice(&header(size as u32, id));
+    rest[..size].copy_from_slice(payload);
+}
+
+impl<L: Link> Channel<L> {
+    /// A link on which nothing was heard. Takes no memory.
+    pub fn new(alloc: Global, link: L) -> Channel<L>
+        ensures { result ≡ record { link = link; place = 0; id = 0; has_failed = false; message = []; began = 0 } }
+    {
+        Channel {
+            link,
+            frames: Frames::new(alloc, MESSAGE_LIMIT),
+            packets: Vec::new(alloc),
+            taken: 0,
+            began: 0,
+            id: 0,
+            has_failed: false,
+        }
+    }
+
+    /// Gives the link back. Takes no memory.
+    pub fn into_link(self) -> L
+        ensures { result ≡ self.link }
+    {
+        let Channel {
+            link,
+            frames: _,
+            packets: _,
+            taken: _,
+            began: _,
+            id: _,
+            has_failed: _,
+        } = self;
+        link
+    }
+
+    /// Counts the session as failed. Takes no memory.
+    pub fn fail(&mut self)
+        ensures { self.new ≡ record self.old { has_failed = true } }
+    {
+        self.has_failed = true;
+    }
+
+    /// Whether the session counts as failed. Takes no memory.
+    pub fn has_failed(&self) -> bool
+        ensures { result ≡ self.now.has_failed }
+    {
+        self.has_failed
+    }
+
+    /// Sends bytes that are the packets of a payload, behind which comes this id. Takes no memory.
+    pub fn send_packets(&mut self, packets: &[u8], next_id: u8) -> Result<(), SessionFault>
+        requires alive { self.old.has_failed ≡ false }
+
+        ensures tells { L.tells self.old.link ↔ L.tells self.new.link }
+        ensures counted { IsCounted (L.faults self.old.link) (L.faults self.new.link) result }
+        ensures failed { self.new.has_failed ≡ failed_by result }
+        ensures fault { IfErr result (λ fault. fault ≡ SessionFault.Link) }
+        ensures place { self.new.place ≡ self.old.place }
+        ensures id { OnOk result (self.new.id ≡ next_id) }
+        ensures sent { OnOk result (L.tells self.old.link → (L.told self.new.link).sent ≡ (L.told self.old.link).sent ++ packets.now ∷ []) }
+        ensures stream { OnOk result (L.tells self.old.link → stream (L.told self.new.link) ≡ stream (L.told self.old.link)) }
+        ensures silent { OnErr result (L.tells self.old.link → (L.told self.new.link).sent ≡ (L.told self.old.link).sent) }
+    {
+        match send(&mut self.link, packets) {
+            Ok(()) => {
+                self.id = next_id;
+                Ok(())
+            }
+            Err(fault) => {
+                self.has_failed = true;
+                Err(fault)
+            }
+        }
+    }
+
+    /// Hears the next message; [`Channel::message`] lends it.
+    pub fn hear(&mut self) -> Result<(), SessionFault>
+        requires alive { self.old.has_failed ≡ false }
+
+        ensures tells { L.tells self.old.link ↔ L.tells self.new.link }
+        ensures counted { IsCounted (L.faults self.old.link) (L.faults self.new.link) result }
+        ensures failed { self.new.has_failed ≡ failed_by result }
+        ensures kind { IfErr result IsOfChannel }
+        ensures began { OnOk result (self.new.began ≡ self.old.place) }
+        ensures heard { OnOk result (L.tells self.old.link → Hears self.new.message (channel_wire L.Link self.old) (channel_wire L.Link self.new)) }
+        ensures err { IfErr result (λ fault. L.tells self.old.link → Misheard (channel_wire L.Link self.old) fault (channel_wire L.Link self.new)) }
+    {
+        self.frames.start(self.id);
+        self.began = self.taken;
+        match receive(&mut self.link, &mut self.frames, &mut self.taken) {
+            Ok(()) => {
+                self.id = self.frames.message().next_seq;
+                Ok(())
+            }
+            Err(fault) => {
+                self.has_failed = true;
+                Err(fault)
+            }
+        }
+    }
+
+    /// The message that was heard last, at the place of the session where it began. Takes no memory.
+    pub fn message(&self) -> Message<'_>
+        ensures payload { result.payload.now ≡ self.now.message }
+        ensures place { result.place ≡ self.now.began }
+    {
+        let message = self.frames.message();
+        Message {
+            payload: message.payload,
+            place: self.began,
+            next_seq: self.id,
+        }
+    }
+}
