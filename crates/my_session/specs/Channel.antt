@@ -4,7 +4,7 @@ use Rattle.link_traits.specs.Link.{stream}
 use Rattle.link_traits.specs.declared.link.Link.{Ghosts}
 use Rattle.my_session.specs.Wire.{Wire, Hears}
 use Rattle.my_session.specs.declared.fault.SessionFault.{SessionFault}
-use Rattle.my_session.specs.declared.fault.SessionFault.TheVariants.{Refused, NotProtocol10, PluginUnsupported}
+use Rattle.my_session.specs.declared.fault.SessionFault.TheVariants.{Link, Refused, NotProtocol10, PluginUnsupported, OutOfMemory}
 
 -- a link, how many bytes were heard on it, the sequence id of the next packet, whether it has failed, and the message that was heard last and its place
 pub record ChannelView (L : Type 0) : Type 0 where
@@ -40,3 +40,9 @@ IsOfChannel (Refused form refusal) = ⊥
 IsOfChannel (NotProtocol10 version) = ⊥
 IsOfChannel (PluginUnsupported name) = ⊥
 IsOfChannel fault = Unit {0}
+
+-- a fault at which a payload that isn't too long wasn't sent
+abbrev pub IsUnsent : SessionFault → Type 0
+IsUnsent Link = Unit {0}
+IsUnsent OutOfMemory = Unit {0}
+IsUnsent fault = ⊥

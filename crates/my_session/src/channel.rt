@@ -4,7 +4,7 @@ ghost use Rattle.link_traits.specs.Link.{stream};
 ghost use Rattle.my_packets.specs.Front.{Wants};
 ghost use Rattle.my_packets.specs.Packet.{packet};
 ghost use Rattle.my_packets.specs.Steps.{Passes};
-ghost use Rattle.my_session.specs.Channel.{ChannelView, channel_wire, wire_at, IsOfChannel};
+ghost use Rattle.my_session.specs.Channel.{ChannelView, channel_wire, wire_at, IsOfChannel, IsUnsent};
 ghost use Rattle.my_session.specs.Halt.{Misheard, Silent, Unsaid};
 ghost use Rattle.my_session.specs.Receiving.{Fetches, Unfetched, Unsettled};
 ghost use Rattle.my_session.specs.Session.{IsCounted, failed_by};
@@ -165,14 +165,14 @@ fn send<L: Link>(link: &mut L, packets: &[u8]) -> Result<(), SessionFault>
 }
 
 // Writes a payload's one packet to the front.
-fn spell_packet(packet: &mut [u8], id: u8, payload: &[u8])
-    requires room { length payload.now + 4 ≤ length packet.old }
+fn spell_packet(out: &mut [u8], id: u8, payload: &[u8])
+    requires room { length payload.now + 4 ≤ length out.old }
     requires one_packet { length payload.now < 16777215 }
 
-    ensures { take (length payload.now + 4) packet.new ≡ packet id payload.now }
+    ensures { take (length payload.now + 4) out.new ≡ packet id payload.now }
 {
     let size = payload.len();
-    let (front, rest) = packet.split_at_mut(4);
+    let (front, rest) = out.split_at_mut(4);
     front.copy_from_slice(&header(size as u32, id));
     rest[..size].copy_from_slice(payload);
 }
@@ -238,6 +238,76 @@ impl<L: Link> Channel<L> {
         ensures silent { OnErr result (L.tells self.old.link → (L.told self.new.link).sent ≡ (L.told self.old.link).sent) }
     {
         match send(&mut self.link, packets) {
+            Ok(()) => {
+                self.id = next_id;
+                Ok(())
+            }
+            Err(fault) => {
+                self.has_failed = true;
+                Err(fault)
+            }
+        }
+    }
+
+    // Sends a short payload in one packet. Takes no memory.
+    #[tactic(auto, using(crate::proofs::Sending::short_is_sent))]
+    fn say_short(&mut self, id: u8, payload: &[u8]) -> Result<(), SessionFault>
+        requires alive { self.old.has_failed ≡ false }
+        requires short { length payload.now ≤ SHORT_PAYLOAD }
+
+        ensures tells { L.tells self.old.link ↔ L.tells self.new.link }
+        ensures counted { IsCounted (L.faults self.old.link) (L.faults self.new.link) result }
+        ensures failed { self.new.has_failed ≡ failed_by result }
+        ensures fault { IfErr result (λ fault. fault ≡ SessionFault.Link) }
+        ensures sent { OnOk result (L.tells self.old.link → channel_wire L.Link self.new ≡ behind_sent id payload.now (channel_wire L.Link self.old)) }
+        ensures silent { OnErr result (L.tells self.old.link → Silent (channel_wire L.Link self.old) (channel_wire L.Link self.new)) }
+    {
+        let mut packet = [0; SHORT_PACKET];
+        spell_packet(&mut packet, id, payload);
+        self.send_packets(&packet[..payload.len() + 4], id.wrapping_add(1))
+    }
+
+    /// Sends a payload in packets from this id on. `TooLong` exactly where it is longer than a message
+    /// may be. Takes no memory where it has at most 1,001 bytes.
+    pub fn say(&mut self, id: u8, payload: &[u8]) -> Result<(), SessionFault>
+        requires alive { self.old.has_failed ≡ false }
+
+        ensures tells { L.tells self.old.link ↔ L.tells self.new.link }
+        ensures counted { IsCounted (L.faults self.old.link) (L.faults self.new.link) result }
+        ensures failed { self.new.has_failed ≡ failed_by result }
+        ensures kind { IfErr result IsOfChannel }
+        ensures memory { length payload.now ≤ SHORT_PAYLOAD → result ≡ Err SessionFault.OutOfMemory → ⊥ }
+        ensures sent { OnOk result (L.tells self.old.link → channel_wire L.Link self.new ≡ behind_sent id payload.now (channel_wire L.Link self.old)) }
+        ensures err { IfErr result (λ fault. L.tells self.old.link → Unsaid payload.now (channel_wire L.Link self.old) fault (channel_wire L.Link self.new)) }
+    {
+        if payload.len() <= SHORT_PAYLOAD {
+            return self.say_short(id, payload);
+        }
+        if payload.len() > MESSAGE_LIMIT as usize {
+            self.has_failed = true;
+            return Err(SessionFault::TooLong(payload.len() as u64));
+        }
+        self.say_long(id, payload)
+    }
+
+    // Sends a payload whose packets are written to memory first.
+    fn say_long(&mut self, id: u8, payload: &[u8]) -> Result<(), SessionFault>
+        requires alive { self.old.has_failed ≡ false }
+        requires within { length payload.now ≤ MESSAGE_LIMIT }
+
+        ensures tells { L.tells self.old.link ↔ L.tells self.new.link }
+        ensures counted { IsCounted (L.faults self.old.link) (L.faults self.new.link) result }
+        ensures failed { self.new.has_failed ≡ failed_by result }
+        ensures fault { IfErr result IsUnsent }
+        ensures sent { OnOk result (L.tells self.old.link → channel_wire L.Link self.new ≡ behind_sent id payload.now (channel_wire L.Link self.old)) }
+        ensures silent { OnErr result (L.tells self.old.link → Silent (channel_wire L.Link self.old) (channel_wire L.Link self.new)) }
+    {
+        self.packets.clear();
+        let Ok(next_id) = frame_into(payload, id, &mut self.packets) else {
+            self.has_failed = true;
+            return Err(SessionFault::OutOfMemory);
+        };
+        match send(&mut self.link, &self.packets) {
             Ok(()) => {
                 self.id = next_id;
                 Ok(())
