@@ -13,11 +13,11 @@ same_size : (m n : ℕ) → m < 16777216 → n < 16777216 → m % 256 ≡ n % 25
 same_size m n m_fits n_fits low middle high = omega arith
 
 -- behind so many full packets stands another one, for which the limit leaves room
-record FullHere (limit id count : ℕ) (bytes : List ℕ) : Type 0 where
-  room : 16777215 * count + 16777215 ≤ limit
-  rest : List ℕ
-  bytes_are : bytes ≡ 255 ∷ 255 ∷ 255 ∷ id_behind count id ∷ rest
-  there : 16777215 ≤ length rest
+pub record FullHere (limit id count : ℕ) (bytes : List ℕ) : Type 0 where
+  pub room : 16777215 * count + 16777215 ≤ limit
+  pub rest : List ℕ
+  pub bytes_are : bytes ≡ 255 ∷ 255 ∷ 255 ∷ id_behind count id ∷ rest
+  pub there : 16777215 ≤ length rest
 
 -- the first of some full packets, and the others
 first_full : (limit id count : ℕ) (payload bytes behind : List ℕ) → HasFull limit id (suc count) payload bytes behind → bytes ≡ 255 ∷ 255 ∷ 255 ∷ (id % 256) ∷ (take 16777215 payload ++ (full_packets count (next_id id) (drop 16777215 payload) ++ behind))
@@ -69,7 +69,7 @@ full_later limit id count bytes fits full =
     }
 
 -- two counts of full packets in front, behind each of which stands none, are one
-one_place : (limit id c d : ℕ) (p q bytes a b : List ℕ) → HasFull limit id c p bytes a → HasFull limit id d q bytes b → ¬ FullHere limit id c a → ¬ FullHere limit id d b → (c ≡ d) × (a ≡ b)
+pub one_place : (limit id c d : ℕ) (p q bytes a b : List ℕ) → HasFull limit id c p bytes a → HasFull limit id d q bytes b → ¬ FullHere limit id c a → ¬ FullHere limit id d b → (c ≡ d) × (a ≡ b)
 one_place limit id zero zero p q bytes a b full also ends stops = (refl, sym full.bytes_are ∙ also.bytes_are)
 one_place limit id zero (suc d) p q bytes a b full also ends stops =
     let here = full_here limit id d q bytes b also in
@@ -124,7 +124,7 @@ wrong_ends limit id found wanted bytes wrong full =
     let same : found ≡ wanted = cc in
     wrong.other same
 
-long_ends : (limit id size : ℕ) (bytes : List ℕ) → (long : IsTooLong limit id size bytes) → ¬ FullHere limit id long.count long.behind
+pub long_ends : (limit id size : ℕ) (bytes : List ℕ) → (long : IsTooLong limit id size bytes) → ¬ FullHere limit id long.count long.behind
 long_ends limit id size bytes long full =
     let header = long.header.bytes_are in
     let bytes_are = full.bytes_are in

@@ -3,4 +3,5 @@ pub mod Joined
 pub mod Packets
 pub mod Passes
 pub mod ReadBack
+pub mod Skimming
 pub mod Splits

@@ -4,5 +4,7 @@ pub mod Joins
 pub mod Laws
 pub mod Lenenc
 pub mod Packet
+pub mod Skimmed
+pub mod Skims
 pub mod Steps
 pub mod Unread

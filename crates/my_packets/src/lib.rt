@@ -9,8 +9,12 @@ mod frame;
 mod frames;
 mod laws;
 mod lenenc;
+#[cfg(test)]
+mod long_messages;
+mod skim;
 
 pub use frame::{frame_into, header};
 pub use frames::{FrameFault, Frames, Message};
 pub use laws::{a_front_is_one_thing, lenenc_is_read_back, packets_are_prefix_free};
 pub use lenenc::{lenenc_into, lenenc_read};
+pub use skim::Skim;
