@@ -1,7 +1,10 @@
 -- A link, what is sent on it, and the message that was heard last on it.
-use Rattle.std.specs.Prelude.{ℕ, ◌≡◌, Bool, List, take}
+use Rattle.std.specs.Prelude.{ℕ, ◌+◌, ◌-◌, ◌/◌, Bool, List}
 use Rattle.link_traits.specs.Link.{stream}
 use Rattle.link_traits.specs.declared.link.Link.{Ghosts}
+use Rattle.my_packets.specs.Packet.{packets}
+use Rattle.my_packets.specs.Skimmed.{Skimmed as SkimmedView}
+use Rattle.my_packets.specs.Skims.{Skims}
 use Rattle.my_session.specs.Wire.{Wire, Hears}
 use Rattle.my_session.specs.declared.fault.SessionFault.{SessionFault}
 use Rattle.my_session.specs.declared.fault.SessionFault.TheVariants.{Link, Refused, NotProtocol10, PluginUnsupported, OutOfMemory}
@@ -28,11 +31,11 @@ wire_at of link place id = record {
 abbrev pub channel_wire : {L : Type 0} → Ghosts L → ChannelView L → Wire
 channel_wire of channel = wire_at of channel.link channel.place channel.id
 
--- a message was heard whose front was kept
-pub record Skimmed (kept : List ℕ) (old new : Wire) : Type 0 where
+-- a message was heard, of which a skim kept the front
+pub record Skimmed (skim : SkimmedView) (old new : Wire) : Type 0 where
   pub message : List ℕ
   pub heard : Hears message old new
-  pub kept_is : kept ≡ take 1024 message
+  pub skims : Skims old.id 67108864 (packets old.id message) skim
 
 -- a fault that comes without a whole message
 abbrev pub IsOfChannel : SessionFault → Type 0
@@ -46,3 +49,7 @@ abbrev pub IsUnsent : SessionFault → Type 0
 IsUnsent Link = Unit {0}
 IsUnsent OutOfMemory = Unit {0}
 IsUnsent fault = ⊥
+
+-- how many packets are so many bytes, where a message has no others: each but the last has 16,777,219
+abbrev pub packets_within : ℕ → ℕ
+packets_within bytes = (bytes - 4) / 16777219 + 1

@@ -1,19 +1,20 @@
 // A link, what is sent on it, and the messages that are heard on it.
-ghost use Rattle.std.specs.Prelude.{◌≡◌, ◌<◌, ◌≤◌, ◌↔◌, ◌+◌, ◌++◌, ◌∷◌, [], length, take, false, true, IfErr, OnOk, OnErr, Err};
+ghost use Rattle.std.specs.Prelude.{◌≡◌, ◌<◌, ◌≤◌, ◌↔◌, ◌+◌, ◌-◌, ◌++◌, ◌∷◌, ℕ, [], length, take, false, true, IfErr, IfOk, OnOk, OnErr, Err};
 ghost use Rattle.link_traits.specs.Link.{stream};
 ghost use Rattle.my_packets.specs.Front.{Wants};
-ghost use Rattle.my_packets.specs.Packet.{packet};
+ghost use Rattle.my_packets.specs.Packet.{packet, id_behind};
+ghost use Rattle.my_packets.specs.Skims.{wanted};
 ghost use Rattle.my_packets.specs.Steps.{Passes};
-ghost use Rattle.my_session.specs.Channel.{ChannelView, channel_wire, wire_at, IsOfChannel, IsUnsent};
+ghost use Rattle.my_session.specs.Channel.{ChannelView, channel_wire, wire_at, IsOfChannel, IsUnsent, Skimmed, packets_within};
 ghost use Rattle.my_session.specs.Halt.{Misheard, Silent, Unsaid};
-ghost use Rattle.my_session.specs.Receiving.{Fetches, Unfetched, Unsettled};
+ghost use Rattle.my_session.specs.Receiving.{Fetches, Sips, Unfetched, Unsettled, Unsipped};
 ghost use Rattle.my_session.specs.Session.{IsCounted, failed_by};
 ghost use Rattle.my_session.specs.Wire.{Hears, behind_sent};
 
 use crate::fault::SessionFault;
 use crate::limits::{MESSAGE_LIMIT, PIECE, SESSION_LIMIT, SHORT_TEXT};
 use link_traits::Link;
-use my_packets::{FrameFault, Frames, Message, frame_into, header};
+use my_packets::{FrameFault, Frames, Message, Skim, frame_into, header};
 use std::alloc::Global;
 use std::marker::Model;
 
@@ -146,6 +147,80 @@ fn receive<L: Link>(
             return Err(fault);
         }
     }
+}
+
+// Takes some bytes off the link, no more than the skim wants, and lets it read them.
+fn sip<L: Link>(
+    link: &mut L,
+    skim: &mut Skim,
+    taken: &mut u64,
+    wants: u32,
+    began: u64,
+) -> Result<(), SessionFault>
+    requires wants { 0 < wants }
+    requires wanted { wants ≡ wanted skim.old }
+    requires within { taken.old ≤ SESSION_LIMIT }
+
+    ensures tells { L.tells link.old ↔ L.tells link.new }
+    ensures counted { IsCounted (L.faults link.old) (L.faults link.new) result }
+    ensures within { taken.new ≤ SESSION_LIMIT }
+    ensures later { taken.old ≤ taken.new }
+    ensures sent { L.tells link.old → (L.told link.new).sent ≡ (L.told link.old).sent }
+    ensures sips { OnOk result (Sips L.Link link.old link.new skim.old skim.new taken.old taken.new) }
+    ensures err { IfErr result (Unsipped L.Link link.old link.new skim.old taken.old began) }
+{
+    let room = room(wants, *taken);
+    if room == 0 {
+        return Err(SessionFault::StreamTooLong);
+    }
+    let mut piece = [0; PIECE];
+    let count = match link.recv(&mut piece[..room]) {
+        Ok(count) => count,
+        Err(_) => return Err(SessionFault::Link),
+    };
+    *taken += count as u64;
+    match skim.feed(&piece[..count]) {
+        Ok(()) => Ok(()),
+        Err(FrameFault::BadSequence(_, _)) => Err(SessionFault::Garbled(began)),
+        Err(FrameFault::TooLong(size)) => Err(SessionFault::TooLong(size)),
+    }
+}
+
+// Takes the next message off the link, whose first packet has to have this sequence id, and keeps its
+// front.
+fn skim_message<L: Link>(link: &mut L, id: u8, taken: &mut u64) -> Result<Skim, SessionFault>
+    requires within { taken.old ≤ SESSION_LIMIT }
+
+    ensures tells { L.tells link.old ↔ L.tells link.new }
+    ensures counted { IsCounted (L.faults link.old) (L.faults link.new) result }
+    ensures kind { IfErr result IsOfChannel }
+    ensures memory { result ≡ Err SessionFault.OutOfMemory → ⊥ }
+    ensures within { taken.new ≤ SESSION_LIMIT }
+    ensures later { taken.old ≤ taken.new }
+    ensures size { OnOk result (4 ≤ taken.new - taken.old) }
+    ensures heard { IfOk result (λ skim. L.tells link.old → Skimmed skim (wire_at L.Link link.old taken.old id) (wire_at L.Link link.new taken.new (id_behind (packets_within (taken.new - taken.old)) id))) }
+    ensures err { IfErr result (λ fault. (now : ℕ) → L.tells link.old → Misheard (wire_at L.Link link.old taken.old id) fault (wire_at L.Link link.new taken.new now)) }
+{
+    let began = *taken;
+    let mut skim = Skim::new(id, MESSAGE_LIMIT);
+    'pieces: loop {
+        let wants = skim.wants();
+        if wants == 0 {
+            return Ok(skim);
+        }
+        if let Err(fault) = sip(link, &mut skim, taken, wants, began) {
+            return Err(fault);
+        }
+    }
+}
+
+// How many packets are so many bytes, where a message has no others.
+fn packets_within(bytes: u64) -> u64
+    requires header { 4 ≤ bytes }
+
+    ensures { result ≡ packets_within bytes }
+{
+    (bytes - 4) / 16777219 + 1
 }
 
 // Sends the packets of a payload.
@@ -343,6 +418,39 @@ impl<L: Link> Channel<L> {
                 Err(fault)
             }
         }
+    }
+
+    /// Hears the next message and keeps its first 1,024 bytes. Takes no memory.
+    pub fn skim(&mut self) -> Result<Skim, SessionFault>
+        requires alive { self.old.has_failed ≡ false }
+
+        ensures tells { L.tells self.old.link ↔ L.tells self.new.link }
+        ensures counted { IsCounted (L.faults self.old.link) (L.faults self.new.link) result }
+        ensures failed { self.new.has_failed ≡ failed_by result }
+        ensures kind { IfErr result IsOfChannel }
+        ensures memory { result ≡ Err SessionFault.OutOfMemory → ⊥ }
+        ensures heard { IfOk result (λ skim. L.tells self.old.link → Skimmed skim (channel_wire L.Link self.old) (channel_wire L.Link self.new)) }
+        ensures err { IfErr result (λ fault. L.tells self.old.link → Misheard (channel_wire L.Link self.old) fault (channel_wire L.Link self.new)) }
+    {
+        let began = self.taken;
+        match skim_message(&mut self.link, self.id, &mut self.taken) {
+            Ok(skim) => {
+                let packets = packets_within(self.taken - began);
+                self.id = self.id.wrapping_add((packets % 256) as u8);
+                Ok(skim)
+            }
+            Err(fault) => {
+                self.has_failed = true;
+                Err(fault)
+            }
+        }
+    }
+
+    /// The place of the next message. Takes no memory.
+    pub fn place(&self) -> u64
+        ensures { result ≡ self.now.place }
+    {
+        self.taken
     }
 
     /// The message that was heard last, at the place of the session where it began. Takes no memory.
