@@ -3,6 +3,7 @@ pub mod Channel
 pub mod Receiving
 pub mod Awaited
 pub mod Halt
+pub mod Heard
 pub mod Statements
 pub mod Login
 pub mod Session

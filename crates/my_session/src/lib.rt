@@ -6,6 +6,7 @@ mod channel;
 mod fault;
 mod laws;
 mod limits;
+mod run;
 
 pub use fault::SessionFault;
 pub use laws::what_comes_next_is_one_thing;
