@@ -3,8 +3,8 @@ pub mod Channel
 pub mod Receiving
 pub mod Awaited
 pub mod Halt
-pub mod Heard
 pub mod Statements
 pub mod Login
+pub mod Heard
 pub mod Session
 pub mod Laws

@@ -365,6 +365,22 @@ impl<L: Link> Channel<L> {
         self.say_long(id, payload)
     }
 
+    /// Sends a further payload of the same exchange, with the ids behind those of the message that was
+    /// heard last. Refusals and memory are those of [`Channel::say`].
+    pub fn answer(&mut self, payload: &[u8]) -> Result<(), SessionFault>
+        requires alive { self.old.has_failed ≡ false }
+
+        ensures tells { L.tells self.old.link ↔ L.tells self.new.link }
+        ensures counted { IsCounted (L.faults self.old.link) (L.faults self.new.link) result }
+        ensures failed { self.new.has_failed ≡ failed_by result }
+        ensures kind { IfErr result IsOfChannel }
+        ensures sent { OnOk result (L.tells self.old.link → channel_wire L.Link self.new ≡ behind_sent self.old.id payload.now (channel_wire L.Link self.old)) }
+        ensures err { IfErr result (λ fault. L.tells self.old.link → Unsaid payload.now (channel_wire L.Link self.old) fault (channel_wire L.Link self.new)) }
+    {
+        let id = self.id;
+        self.say(id, payload)
+    }
+
     // Sends a payload whose packets are written to memory first.
     fn say_long(&mut self, id: u8, payload: &[u8]) -> Result<(), SessionFault>
         requires alive { self.old.has_failed ≡ false }

@@ -6,6 +6,7 @@ mod channel;
 mod fault;
 mod laws;
 mod limits;
+mod login;
 mod run;
 
 pub use fault::SessionFault;

@@ -38,8 +38,8 @@ pub(crate) fn hear_reply<L: Link>(
     Ok(read_reply(skim.kept(), reader))
 }
 
-// Reads a reply's first message.
-fn read_reply(payload: &[u8], reader: &mut RowReader) -> Option<Reply>
+/// Reads a reply's first message.
+pub(crate) fn read_reply(payload: &[u8], reader: &mut RowReader) -> Option<Reply>
     ensures reply { result ≡ reply_of payload.now }
     ensures reader { reader.new ≡ reading_of result }
 {
