@@ -1,5 +1,6 @@
 pub mod Answering
 pub mod Exact
+pub mod LoggingIn
 pub mod OneNext
 pub mod Receipts
 pub mod Running
