@@ -4,7 +4,7 @@ use Rattle.my_login.specs.Greeting.{greeting_of}
 use Rattle.my_login.specs.Switch.{switch_of}
 use Rattle.my_login.specs.declared.greeting.Greeting.{Greeting}
 use Rattle.my_login.specs.declared.switch.Switch.{Switch}
-use Rattle.result_rows.specs.Reading.{Reading, idle, counted}
+use Rattle.result_rows.specs.Reading.{Reading, definition, idle, counted, further_of}
 use Rattle.result_rows.specs.Reply.{reply_of}
 use Rattle.result_rows.specs.declared.reader.Reply.{Reply}
 use Rattle.result_rows.specs.declared.reader.Reply.TheVariants.{Done, Refused, Columns}
@@ -52,3 +52,9 @@ pub record IsAskedToSwitch (user password : List ℕ) (found : Switch) (steps : 
   pub goes_on : fault_at decision 0 message ≡ None
   pub read : switch_of message ≡ Ok found
   pub steps_are : steps ≡ before ++ hears message ∷ []
+
+-- a column definition was heard, or the EOF behind the definitions
+pub record HearsDefinition (reading : Reading) (old new : Wire) : Type 0 where
+  pub message : List ℕ
+  pub heard : Hears message old new
+  pub is : further_of reading message ≡ definition

@@ -6,5 +6,6 @@ pub mod Halt
 pub mod Statements
 pub mod Login
 pub mod Heard
+pub mod Lead
 pub mod Session
 pub mod Laws

@@ -1,4 +1,5 @@
 // Why a call of a session didn't end well.
+ghost use Rattle.std.specs.Prelude.{◌≡◌};
 
 use result_rows::{Refusal, ShortText};
 use sql_statements::Form;
@@ -32,4 +33,24 @@ pub enum SessionFault {
     /// Memory ran out.
     #[error("out of memory")]
     OutOfMemory,
+}
+
+impl SessionFault {
+    ghost use Rattle.my_session.specs.Session.{ends_session};
+
+    // Whether a session fails at it.
+    pub(crate) fn ends_session(&self) -> bool
+        ensures { result ≡ ends_session self.now }
+    {
+        match self {
+            SessionFault::Refused(_, _) => false,
+            SessionFault::Link
+            | SessionFault::Garbled(_)
+            | SessionFault::NotProtocol10(_)
+            | SessionFault::PluginUnsupported(_)
+            | SessionFault::TooLong(_)
+            | SessionFault::StreamTooLong
+            | SessionFault::OutOfMemory => true,
+        }
+    }
 }
