@@ -2,6 +2,7 @@ pub mod Answering
 pub mod Exact
 pub mod LoggingIn
 pub mod OneNext
+pub mod Querying
 pub mod Receipts
 pub mod Running
 pub mod Sending

@@ -1,7 +1,8 @@
 -- How a login goes on from one stage to the next.
-use Rattle.std.proofs.Common.{◌≡◌, ℕ, List, [], ◌∷◌, ◌++◌, refl, sym, ◌∙◌, ap, subst, inl, inr, append_assoc, Option, Some, Result, Ok, Err, OnOk}
+use Rattle.std.proofs.Common.{◌≡◌, ◌↔◌, ℕ, false, List, [], ◌∷◌, ◌++◌, refl, sym, ◌∙◌, ap, subst, inl, inr, append_assoc, Option, Some, Result, Ok, Err, OnOk}
 use Rattle.std.specs.Prelude.{IfErr}
 use Rattle.std.proofs.lemmas.List.{append-nil}
+use Rattle.link_traits.specs.declared.link.Link.{Ghosts}
 use Rattle.my_login.specs.Response.{response}
 use Rattle.my_login.specs.declared.greeting.Greeting.{Greeting}
 use Rattle.my_login.specs.declared.switch.Switch.{Switch}
@@ -10,23 +11,15 @@ use Rattle.sql_statements.specs.declared.command.Command.TheVariants.{SetUp}
 use Rattle.sql_statements.specs.declared.form.Form.TheVariants.{Connect}
 use Rattle.my_session.proofs.Running.{leads_on, leads_said, leads_answered, leads_heard}
 use Rattle.my_session.specs.Awaited.{Awaited, greeting, decision, done}
+use Rattle.my_session.specs.Channel.{ChannelView, channel_wire}
 use Rattle.my_session.specs.Halt.{Halts, Unsaid, Stops, at_message, at_payload}
 use Rattle.my_session.specs.Heard.{HearsReply, HearsGreeting, HearsDecision, IsAskedToSwitch}
 use Rattle.my_session.specs.Login.{password_answer, switch_answer, IsGreeted, IsSwitched, IsAccepted, IsLoggedIn, LoginAwaits, a_greeting, a_decision, an_acceptance, a_set_up, LoginSends, the_response, the_switch_answer, the_set_up}
-use Rattle.my_session.specs.Session.{Runs}
+use Rattle.my_session.specs.Session.{Runs, IsCounted, LoginStopped, fresh}
 use Rattle.my_session.specs.Statements.{IsRun, RunAwaits, an_ok, RunSends, command_payload}
 use Rattle.my_session.specs.Wire.{Wire, Step, commands, answers, hears, Leads, ends, Takes, behind_sent}
 use Rattle.my_session.specs.declared.fault.SessionFault.{SessionFault}
 use Rattle.my_session.specs.declared.login.Decision.TheVariants.{Accepted, Switched}
-
--- what holds under a premise at an answer, holds at the answer under the premise
-pub ok_where : {P : Type 0} (Q : Type 0) (result : Result (Unit {0}) SessionFault) → (P → OnOk result Q) → OnOk result (P → Q)
-ok_where Q (Ok finished) so = so
-ok_where Q (Err fault) so = tt
-
-pub err_where : {P : Type 0} (Q : SessionFault → Type 0) (result : Result (Unit {0}) SessionFault) → (P → IfErr result Q) → IfErr result (λ fault. P → Q fault)
-err_where Q (Ok finished) so = tt
-err_where Q (Err fault) so = so
 
 module _ (user password : List ℕ) where
   -- the greeting
@@ -121,3 +114,21 @@ module _ (user password : List ℕ) where
     pub not_logged_in : (result : Result (Unit {0}) SessionFault) → Runs SetUp old result new → IfErr result (λ fault. Stops (LoginAwaits user password) (LoginSends user password) start fault new)
     not_logged_in (Ok finished) runs = tt
     not_logged_in (Err fault) runs = set_up_stops fault runs
+
+-- a login that stopped gives its link back
+module _ {L : Type 0} (of : Ghosts L) (user password : List ℕ) (link gone : L) (fault : SessionFault) (channel : ChannelView L) (gone_is : gone ≡ channel.link) where
+  stopped : (of.tells link ↔ of.tells channel.link) → IsCounted {A = Unit {0}} (of.faults link) (of.faults channel.link) (Err fault) → (of.tells link → Stops (LoginAwaits user password) (LoginSends user password) (fresh of link) fault (channel_wire of channel)) → LoginStopped of user password link gone fault
+  stopped tells counted stops = subst (λ (l : L). LoginStopped of user password link l fault) (sym gone_is) record {
+    tells = tells;
+    later = counted.later;
+    failed = λ e. counted.failed (ap (λ (f : SessionFault). Err f) e);
+    wire = channel_wire of channel;
+    is_wire = record { sent = refl; stream = refl };
+    stops = stops;
+  }
+
+  pub login_stopped : (first : ChannelView L) → first ≡ record { link = link; place = 0; id = 0; has_failed = false; message = []; began = 0 }
+      → (of.tells first.link ↔ of.tells channel.link) → IsCounted {A = Unit {0}} (of.faults first.link) (of.faults channel.link) (Err fault) → (of.tells first.link → Stops (LoginAwaits user password) (LoginSends user password) (channel_wire of first) fault (channel_wire of channel)) → LoginStopped of user password link gone fault
+  login_stopped first is =
+      subst (λ (c : ChannelView L). (of.tells c.link ↔ of.tells channel.link) → IsCounted {A = Unit {0}} (of.faults c.link) (of.faults channel.link) (Err fault) → (of.tells c.link → Stops (LoginAwaits user password) (LoginSends user password) (channel_wire of c) fault (channel_wire of channel)) → LoginStopped of user password link gone fault)
+      (sym is) stopped

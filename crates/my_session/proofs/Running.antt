@@ -30,6 +30,15 @@ leads_answered payload old new is = subst (λ (w : Wire). Leads (answers payload
 pub leads_heard : (message : List ℕ) (old new : Wire) → Hears message old new → Leads (hears message ∷ []) old new
 leads_heard message old new heard = behind_message heard ends
 
+-- what holds under a premise at an answer, holds at the answer under the premise
+pub ok_where : {P : Type 0} (Q : Type 0) (result : Result (Unit {0}) SessionFault) → (P → OnOk result Q) → OnOk result (P → Q)
+ok_where Q (Ok finished) so = so
+ok_where Q (Err fault) so = tt
+
+pub err_where : {P : Type 0} (Q : SessionFault → Type 0) (result : Result (Unit {0}) SessionFault) → (P → IfErr result Q) → IfErr result (λ fault. P → Q fault)
+err_where Q (Ok finished) so = tt
+err_where Q (Err fault) so = so
+
 module _ (command : Command) (old new : Wire) where
   pub run_unwritten : (fault : SessionFault) → fault ≡ OutOfMemory → Stops (RunAwaits command) (RunSends command) old fault old
   run_unwritten fault is = subst (λ (f : SessionFault). Stops (RunAwaits command) (RunSends command) old f old) (sym is) (at_payload (record { steps_are = refl; payload_is = refl }) ends refl)

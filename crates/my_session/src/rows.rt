@@ -134,6 +134,8 @@ fn hear_count<L: Link>(
     ensures counted { IsCounted (L.faults channel.old.link) (L.faults channel.new.link) result }
     ensures alive { failed_by result ≡ false → channel.new.has_failed ≡ false }
     ensures fault { IfErr result IsOfStatement }
+    ensures some { IfOk result (λ columns. 0 < columns) }
+    ensures few { IfOk result (λ columns. columns < 65536) }
     ensures reader { IfOk result (λ columns. reader.new ≡ counted columns) }
     ensures heard { IfOk result (λ columns. L.tells channel.old.link → HearsReply (Some (Columns columns)) (channel_wire L.Link channel.old) (channel_wire L.Link channel.new)) }
     ensures err { IfErr result (λ fault. L.tells channel.old.link → Halts (count form) (channel_wire L.Link channel.old) fault (channel_wire L.Link channel.new)) }
@@ -156,7 +158,13 @@ fn is_definition(reader: &mut RowReader, message: Message<'_>) -> bool
     ensures turn { further_of reader.old message.entry.payload.now ≡ definition_if result }
     ensures after { reader.new ≡ after reader.old (definition_if result) }
 {
-    matches!(reader.more(message), Ok(Turn::Definition))
+    match reader.more(message) {
+        Ok(Turn::Definition) => true,
+        Ok(Turn::Row(_)) => false,
+        Ok(Turn::End) => false,
+        Ok(Turn::Refused(_)) => false,
+        Err(_) => false,
+    }
 }
 
 // Hears a column definition, or the EOF behind the definitions.
@@ -185,4 +193,112 @@ fn hear_definition<L: Link>(
         return Ok(());
     }
     Err(SessionFault::Garbled(place))
+}
+
+// Hears the definitions of so many columns, and their EOF.
+fn describe<L: Link>(
+    channel: &mut Channel<L>,
+    reader: &mut RowReader,
+    query: &Query<'_>,
+    columns: u32,
+) -> Result<(), SessionFault>
+    requires alive { channel.old.has_failed ≡ false }
+    requires some { 0 < columns }
+    requires few { columns < 65536 }
+    requires reader { reader.old ≡ counted columns }
+
+    ensures tells { L.tells channel.old.link ↔ L.tells channel.new.link }
+    ensures counted { IsCounted (L.faults channel.old.link) (L.faults channel.new.link) result }
+    ensures alive { failed_by result ≡ false → channel.new.has_failed ≡ false }
+    ensures fault { IfErr result IsOfStatement }
+    ensures reader { OnOk result (reader.new ≡ rows_of columns) }
+    ensures ok { OnOk result ((start : Wire) → L.tells channel.old.link → Takes (λ steps. IsDescribed query.now steps (counted columns)) start (channel_wire L.Link channel.old) → Takes (λ steps. IsDescribed query.now steps (rows_of columns)) start (channel_wire L.Link channel.new)) }
+    ensures err { IfErr result (λ fault. (start : Wire) → L.tells channel.old.link → Takes (λ steps. IsDescribed query.now steps (counted columns)) start (channel_wire L.Link channel.old) → Stops (QueryAwaits query.now) (QuerySends query.now) start fault (channel_wire L.Link channel.new)) }
+{
+    let form = query.form();
+    let mut left = columns + 1;
+    'definitions: while 0 < left {
+        if let Err(fault) = hear_definition(channel, reader, form) {
+            return Err(fault);
+        }
+        left -= 1;
+    }
+    Ok(())
+}
+
+// Asks a query, and answers how many columns its rows have.
+fn ask<L: Link>(
+    channel: &mut Channel<L>,
+    payload: &mut Buffer,
+    reader: &mut RowReader,
+    query: &Query<'_>,
+) -> Result<u32, SessionFault>
+    requires text { QueryHasText query.now }
+    requires alive { channel.old.has_failed ≡ false }
+
+    ensures tells { L.tells channel.old.link ↔ L.tells channel.new.link }
+    ensures counted { IsCounted (L.faults channel.old.link) (L.faults channel.new.link) result }
+    ensures alive { failed_by result ≡ false → channel.new.has_failed ≡ false }
+    ensures room { length payload.old.bytes + payload.old.spare ≤ length payload.new.bytes + payload.new.spare }
+    ensures fault { IfErr result IsOfStatement }
+    ensures columns { IfOk result (λ columns. 0 < columns) }
+    ensures reader { IfOk result (λ columns. reader.new ≡ rows_of columns) }
+    ensures asks { L.tells channel.old.link → Asks query.now (channel_wire L.Link channel.old) result (channel_wire L.Link channel.new) }
+{
+    if let Err(fault) = lead(channel, payload, query) {
+        return Err(fault);
+    }
+    if let Err(fault) = send_query(channel, payload, query) {
+        return Err(fault);
+    }
+    let columns = match hear_count(channel, reader, query.form()) {
+        Ok(columns) => columns,
+        Err(fault) => return Err(fault),
+    };
+    if let Err(fault) = describe(channel, reader, query, columns) {
+        return Err(fault);
+    }
+    Ok(columns)
+}
+
+impl<L: Link> Reads for Session<L> {
+    ghost use Rattle.my_session.specs.Session.{ReaderView, wire_of};
+
+    ghost tells = { λ session. L.tells session.link };
+
+    ghost view = { λ session. record { wire = wire_of L.Link session; faults = L.faults session.link; has_failed = session.has_failed; pending = session.pending } };
+
+    fn query(&mut self, query: &Query<'_>) -> Result<u32, SessionFault> {
+        match ask(&mut self.channel, &mut self.payload, &mut self.reader, query) {
+            Ok(columns) => {
+                self.form = query.form();
+                Ok(columns)
+            }
+            Err(fault) => {
+                self.reader = RowReader::new();
+                self.has_failed = fault.ends_session();
+                Err(fault)
+            }
+        }
+    }
+
+    fn next_row(&mut self) -> Result<Option<Row<'_>>, SessionFault> {
+        let place = self.channel.place();
+        if let Err(fault) = self.channel.hear() {
+            self.reader = RowReader::new();
+            self.has_failed = true;
+            return Err(fault);
+        }
+        match self.reader.more(self.channel.message()) {
+            Ok(Turn::Row(row)) => Ok(Some(row)),
+            Ok(Turn::End) => Ok(None),
+            Ok(Turn::Refused(refusal)) => Err(SessionFault::Refused(self.form, refusal)),
+            Ok(Turn::Definition) => unreachable!(),
+            Err(_) => {
+                self.reader = RowReader::new();
+                self.has_failed = true;
+                Err(SessionFault::Garbled(place))
+            }
+        }
+    }
 }

@@ -1,6 +1,6 @@
 use Rattle.my_session.specs.Channel.{channel_wire}
-use Rattle.std.proofs.lemmas.Result.{on_ok_weaker, IfErr-weaker}
-use Rattle.my_session.proofs.LoggingIn.{logged_in, not_logged_in, ok_where, err_where}
+use Rattle.my_session.proofs.LoggingIn.{logged_in, not_logged_in}
+use Rattle.my_session.proofs.Running.{ok_where, err_where}
 use Rattle.my_session.proofs.login.log_in.Goals as goal
 
 pub returns-in-Err-be_accepted-clause-err : goal.returns-in-Err-be_accepted-clause-err
