@@ -1,5 +1,5 @@
 -- How a query is led, sent and described.
-use Rattle.std.proofs.Common.{◌≡◌, ◌<◌, ◌≤◌, ◌+◌, ◌-◌, ◌==◌, ◌&&◌, nat_le, ℕ, suc, Bool, true, false, if◌then◌else◌, List, [], ◌∷◌, ◌++◌, length, map, replicate, refl, sym, ◌∙◌, ap, subst, inl, inr, ◌⊎◌, ◌≢◌, append_assoc, arith, Option, Some, None, option_map, Result, Ok, Err, OnOk, length-append}
+use Rattle.std.proofs.Common.{◌≡◌, ◌<◌, ◌≤◌, ◌+◌, ◌-◌, ◌==◌, ◌&&◌, nat_le, nat_lt, ℕ, suc, Bool, true, false, if◌then◌else◌, List, [], ◌∷◌, ◌++◌, length, map, replicate, refl, sym, ◌∙◌, ap, subst, inl, inr, ◌⊎◌, ◌≢◌, append_assoc, arith, Option, Some, None, option_map, Result, Ok, Err, OnOk, length-append}
 use Rattle.std.specs.Prelude.{IfErr, option_and_then}
 use Rattle.std.proofs.lemmas.Bool.{ne_eqb}
 use Rattle.std.proofs.lemmas.Bool.Decides.{nat_tests}
@@ -7,8 +7,9 @@ use Rattle.std.proofs.lemmas.List.{append-nil, map-append}
 use Rattle.link_traits.specs.declared.link.Link.{Ghosts}
 use Rattle.my_packets.specs.Lenenc.{lenenc_of}
 use Rattle.result_rows.specs.Definition.{is_definition, column_count}
-use Rattle.result_rows.specs.Reading.{Reading, Further, definition, row, end, refused, garbled, counted, further_of, after, definition_if, row_of}
+use Rattle.result_rows.specs.Reading.{Reading, Further, definition, row, end, refused, garbled, counted, further_of, after, definition_if, end_if, refused_if, row_if, row_of}
 use Rattle.result_rows.specs.Reply.{is_ok_packet, is_eof_packet, refusal_of, reply_of}
+use Rattle.result_rows.specs.Row.{Cell, cells_of}
 use Rattle.result_rows.specs.ResultSet.{taken}
 use Rattle.result_rows.specs.declared.refusal.Refusal.{Refusal}
 use Rattle.result_rows.specs.declared.reader.Reply.{Reply}
@@ -23,7 +24,7 @@ use Rattle.my_session.proofs.Running.{leads_on, leads_said, leads_heard}
 use Rattle.my_session.specs.Awaited.{Awaited, count, further}
 use Rattle.my_session.specs.Channel.{ChannelView, channel_wire}
 use Rattle.my_session.specs.Halt.{Halts, Unsaid, Stops, at_message, at_payload}
-use Rattle.my_session.specs.Heard.{HearsReply, HearsDefinition}
+use Rattle.my_session.specs.Heard.{HearsReply, HearsDefinition, IsRowOf}
 use Rattle.my_session.specs.Lead.{lead_of}
 use Rattle.my_session.specs.Session.{Runs}
 use Rattle.my_session.specs.Statements.{IsRun, RunAwaits, RunSends, IsLed, LeadAwaits, LeadSends, IsAsked, IsDescribed, QueryAwaits, a_lead, a_count, a_definition, QuerySends, the_lead, the_query, query_payload}
@@ -121,8 +122,8 @@ more_turns reading [] message turns is =
     ap (λ (f : Further). f ∷ []) (ap (λ (n : ℕ). further_of (record reading { awaited = n }) message) (sym same) ∙ is)
 more_turns reading (other ∷ others) message turns is =
     let first : further_of reading other ≡ definition = cc in
-    let then : taken (after reading (further_of reading other)) others ≡ replicate (length others) definition = cc in
-    let later : taken (record reading { awaited = reading.awaited - 1 }) others ≡ replicate (length others) definition = ap (λ (f : Further). taken (after reading f) others) (sym first) ∙ then in
+    let others_are : taken (after reading (further_of reading other)) others ≡ replicate (length others) definition = cc in
+    let later : taken (record reading { awaited = reading.awaited - 1 }) others ≡ replicate (length others) definition = ap (λ (f : Further). taken (after reading f) others) (sym first) ∙ others_are in
     let at : reading.awaited - 1 - length others ≡ reading.awaited - suc (length others) = omega arith in
     let whole : taken (record reading { awaited = reading.awaited - 1 }) (others ++ message ∷ []) ≡ replicate (length others + 1) definition = more_turns (record reading { awaited = reading.awaited - 1 }) others message later (ap (λ (n : ℕ). further_of (record reading { awaited = n }) message) at ∙ is) in
     let size : suc (length others + 1) ≡ suc (length others) + 1 = omega arith in
@@ -191,3 +192,44 @@ module _ (query : Query) (start old new : Wire) where
 pub lead_stops : (query : Query) (old new : Wire) (fault : SessionFault) → Stops (LeadAwaits query) (LeadSends query) old fault new → Stops (QueryAwaits query) (QuerySends query) old fault new
 lead_stops query old new fault (at_message awaits leads halts) = at_message (a_lead awaits) leads halts
 lead_stops query old new fault (at_payload sends leads unsaid) = at_payload (the_lead sends) leads unsaid
+
+-- ---- the rows
+
+-- what the tests of a message in the place of a row tell
+row_by : (ends refuses eof : Bool) (refusal : Option Refusal) (found : Option (List Cell)) (cells : List Cell) → (if ends then end_if eof else (if refuses then refused_if refusal else row_if found)) ≡ row cells → found ≡ Some cells
+row_by true refuses true refusal found cells is = absurd (cc)
+row_by true refuses false refusal found cells is = absurd (cc)
+row_by false true eof None found cells is = absurd (cc)
+row_by false true eof (Some refusal) found cells is = absurd (cc)
+row_by false false eof refusal None cells is = absurd (cc)
+row_by false false eof refusal (Some found) cells is = cc
+
+definition_by : (ends refuses eof : Bool) (refusal : Option Refusal) (found : Option (List Cell)) → (if ends then end_if eof else (if refuses then refused_if refusal else row_if found)) ≡ definition → ⊥
+definition_by true refuses true refusal found is = cc
+definition_by true refuses false refusal found is = cc
+definition_by false true eof None found is = cc
+definition_by false true eof (Some refusal) found is = cc
+definition_by false false eof refusal None is = cc
+definition_by false false eof refusal (Some found) is = cc
+
+row_cells : (columns : ℕ) (message : List ℕ) (cells : List Cell) → row_of columns message ≡ row cells → cells_of columns message ≡ Some cells
+row_cells columns [] cells is = absurd (cc)
+row_cells columns (byte ∷ bytes) cells is = row_by (byte == 254 && nat_lt (length bytes) 8) (byte == 255) (is_eof_packet (byte ∷ bytes)) (refusal_of (byte ∷ bytes)) (cells_of columns (byte ∷ bytes)) cells is
+
+row_no_definition : (columns : ℕ) (message : List ℕ) → row_of columns message ≡ definition → ⊥
+row_no_definition columns [] is = cc
+row_no_definition columns (byte ∷ bytes) is = definition_by (byte == 254 && nat_lt (length bytes) 8) (byte == 255) (is_eof_packet (byte ∷ bytes)) (refusal_of (byte ∷ bytes)) (cells_of columns (byte ∷ bytes)) is
+
+-- a message in the place of a row
+in_place : (reading : Reading) (message : List ℕ) → reading.awaited ≡ 0 → further_of reading message ≡ row_of reading.columns message
+in_place reading message none = ap (λ (n : ℕ). further_of (record { columns = reading.columns; awaited = n }) message) none
+
+pub is_row_of : (reading : Reading) (message : List ℕ) (cells : List Cell) → reading.awaited ≡ 0 → further_of reading message ≡ row cells → IsRowOf reading message
+is_row_of reading message cells none is = record {
+  cells = cells;
+  cells_are = row_cells reading.columns message cells (sym (in_place reading message none) ∙ is);
+  is = is;
+}
+
+pub rows_no_definition : (reading : Reading) (message : List ℕ) → reading.awaited ≡ 0 → further_of reading message ≡ definition → ⊥
+rows_no_definition reading message none is = row_no_definition reading.columns message (sym (in_place reading message none) ∙ is)

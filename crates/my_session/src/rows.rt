@@ -1,5 +1,5 @@
 // Queries, and their rows.
-ghost use Rattle.std.specs.Prelude.{◌≡◌, ◌≤◌, ◌<◌, ◌↔◌, ◌+◌, ◌-◌, ℕ, length, false, Some, Ok, Err, IfErr, IfOk, OnOk, option_copied};
+ghost use Rattle.std.specs.Prelude.{◌≡◌, ◌≤◌, ◌<◌, ◌↔◌, ◌+◌, ◌-◌, ℕ, length, false, Some, Ok, Err, IfErr, IfOk, OnOk, MatchResult, option_copied};
 ghost use Rattle.result_rows.specs.Reading.{idle, counted, definition_if, further_of, after};
 ghost use Rattle.result_rows.specs.declared.reader.Reply.TheVariants.{Columns};
 ghost use Rattle.sql_statements.specs.Form.{query_form};
@@ -8,11 +8,11 @@ ghost use Rattle.sql_statements.specs.Text.{query_text};
 ghost use Rattle.my_session.specs.Awaited.{count, further};
 ghost use Rattle.my_session.specs.Channel.{channel_wire};
 ghost use Rattle.my_session.specs.Halt.{Halts, Stops, Unsaid};
-ghost use Rattle.my_session.specs.Heard.{HearsReply, HearsDefinition};
+ghost use Rattle.my_session.specs.Heard.{HearsReply, HearsDefinition, IsBehindRow, Judges};
 ghost use Rattle.my_session.specs.Lead.{lead_of};
 ghost use Rattle.my_session.specs.Session.{Asks, IsCounted, IsOfStatement, failed_by, rows_of};
 ghost use Rattle.my_session.specs.Statements.{IsLed, LeadAwaits, LeadSends, IsAsked, IsDescribed, QueryAwaits, QuerySends, query_payload};
-ghost use Rattle.my_session.specs.Wire.{Wire, Takes, behind_sent};
+ghost use Rattle.my_session.specs.Wire.{Wire, Hears, Takes, behind_sent};
 
 use crate::channel::Channel;
 use crate::fault::SessionFault;
@@ -261,6 +261,57 @@ fn ask<L: Link>(
     Ok(columns)
 }
 
+// Reads a message in the place of a row, and says whether it is one; else it is the end. Behind a
+// fault nothing is pending.
+fn judge(
+    reader: &mut RowReader,
+    form: Form,
+    message: Message<'_>,
+) -> Result<bool, SessionFault>
+    requires pending { 0 < reader.old.columns }
+    requires rows { reader.old.awaited ≡ 0 }
+
+    ensures { Judges reader.old form message.entry.payload.now message.entry.place result reader.new }
+{
+    let place = message.place;
+    match reader.more(message) {
+        Ok(Turn::Row(_)) => Ok(true),
+        Ok(Turn::End) => Ok(false),
+        Ok(Turn::Refused(refusal)) => Err(SessionFault::Refused(form, refusal)),
+        Ok(Turn::Definition) => unreachable!(),
+        Err(_) => {
+            *reader = RowReader::new();
+            Err(SessionFault::Garbled(place))
+        }
+    }
+}
+
+// Hears a message in the place of a row, and says whether it is one; else it is the end. Behind a
+// fault nothing is pending.
+fn advance<L: Link>(
+    channel: &mut Channel<L>,
+    reader: &mut RowReader,
+    form: Form,
+) -> Result<bool, SessionFault>
+    requires alive { channel.old.has_failed ≡ false }
+    requires pending { 0 < reader.old.columns }
+    requires rows { reader.old.awaited ≡ 0 }
+
+    ensures tells { L.tells channel.old.link ↔ L.tells channel.new.link }
+    ensures counted { IsCounted (L.faults channel.old.link) (L.faults channel.new.link) result }
+    ensures alive { failed_by result ≡ false → channel.new.has_failed ≡ false }
+    ensures began { OnOk result (channel.new.began ≡ channel.old.place) }
+    ensures reader { MatchResult result (λ is_row. IsBehindRow reader.old channel.new.message is_row reader.new) (λ _. reader.new ≡ idle) }
+    ensures heard { OnOk result (L.tells channel.old.link → Hears channel.new.message (channel_wire L.Link channel.old) (channel_wire L.Link channel.new)) }
+    ensures err { IfErr result (λ fault. L.tells channel.old.link → Halts (further form reader.old) (channel_wire L.Link channel.old) fault (channel_wire L.Link channel.new)) }
+{
+    if let Err(fault) = channel.hear() {
+        *reader = RowReader::new();
+        return Err(fault);
+    }
+    judge(reader, form, channel.message())
+}
+
 impl<L: Link> Reads for Session<L> {
     ghost use Rattle.my_session.specs.Session.{ReaderView, wire_of};
 
@@ -283,22 +334,16 @@ impl<L: Link> Reads for Session<L> {
     }
 
     fn next_row(&mut self) -> Result<Option<Row<'_>>, SessionFault> {
-        let place = self.channel.place();
-        if let Err(fault) = self.channel.hear() {
-            self.reader = RowReader::new();
-            self.has_failed = true;
-            return Err(fault);
-        }
-        match self.reader.more(self.channel.message()) {
-            Ok(Turn::Row(row)) => Ok(Some(row)),
-            Ok(Turn::End) => Ok(None),
-            Ok(Turn::Refused(refusal)) => Err(SessionFault::Refused(self.form, refusal)),
-            Ok(Turn::Definition) => unreachable!(),
-            Err(_) => {
-                self.reader = RowReader::new();
-                self.has_failed = true;
-                Err(SessionFault::Garbled(place))
+        let is_row = match advance(&mut self.channel, &mut self.reader, self.form) {
+            Ok(is_row) => is_row,
+            Err(fault) => {
+                self.has_failed = fault.ends_session();
+                return Err(fault);
             }
+        };
+        if is_row {
+            return Ok(Some(self.reader.found_row(self.channel.message())));
         }
+        Ok(None)
     }
 }

@@ -1,7 +1,8 @@
 // Replies, message by message.
-ghost use Rattle.std.specs.Prelude.{◌≡◌, ◌<◌};
+ghost use Rattle.std.specs.Prelude.{◌≡◌, ◌<◌, Some, IsSome};
 ghost use Rattle.result_rows.specs.Reply.{reply_of};
 ghost use Rattle.result_rows.specs.Reading.{idle, counted, row_of, further_of, after};
+ghost use Rattle.result_rows.specs.Row.{cells_of};
 ghost use Rattle.result_rows.specs.Turns.{IsReply, IsTurn};
 
 use crate::fields::{column_count, is_definition, is_eof_packet, is_ok_packet};
@@ -125,6 +126,18 @@ impl RowReader {
         }
         self.awaited -= 1;
         Ok(Turn::Definition)
+    }
+
+    /// The row that a message is, where [`RowReader::more`] has found it to be one, for a caller that
+    /// can't keep that answer. Nothing of it is read again. Takes no memory.
+    #[inline]
+    pub fn found_row<'a>(&self, message: Message<'a>) -> Row<'a>
+        requires { IsSome (cells_of self.now.columns message.payload.now) }
+
+        ensures cells { cells_of self.now.columns message.entry.payload.now ≡ Some result.cells }
+        ensures place { result.place ≡ message.entry.place }
+    {
+        Row::known(self.columns, message.payload, message.place)
     }
 
     // Reads a message in a row's place.

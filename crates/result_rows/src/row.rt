@@ -1,5 +1,5 @@
 // Rows, and their cells one after the other.
-ghost use Rattle.std.specs.Prelude.{◌≡◌, ◌<◌, length, is_some, slice_index_or, MatchOption, Some, None, option_map, option_copied};
+ghost use Rattle.std.specs.Prelude.{◌≡◌, ◌<◌, length, is_some, IsSome, slice_index_or, MatchOption, Some, None, option_map, option_copied};
 ghost use Rattle.result_rows.specs.Row.{cell_of, cells_of};
 
 use crate::fields::string_of;
@@ -40,6 +40,21 @@ impl<'a> Row<'a> {
             columns,
             place,
         })
+    }
+
+    // The row that so many bytes are, where they are known to be one: nothing is read.
+    #[inline]
+    pub(crate) fn known(columns: u32, payload: &'a [u8], place: u64) -> Row<'a>
+        requires { IsSome (cells_of columns payload.now) }
+
+        ensures cells { cells_of columns payload.now ≡ Some result.cells }
+        ensures place { result.place ≡ place }
+    {
+        Row {
+            payload,
+            columns,
+            place,
+        }
     }
 
     /// The number of its cells. Takes no memory.
