@@ -1,4 +1,5 @@
 pub mod Answering
+pub mod Counting
 pub mod Exact
 pub mod LoggingIn
 pub mod OneNext

@@ -12,6 +12,10 @@ use Rattle.result_rows.specs.Reply.{is_ok_packet, is_eof_packet, refusal_of, rep
 use Rattle.result_rows.specs.Row.{Cell, cells_of}
 use Rattle.result_rows.specs.ResultSet.{taken}
 use Rattle.result_rows.specs.declared.refusal.Refusal.{Refusal}
+use Rattle.result_rows.specs.Turns.{IsTurn}
+use Rattle.result_rows.specs.declared.row.Row.{Row}
+use Rattle.result_rows.specs.declared.reader.Turn.{Turn}
+use Rattle.result_rows.specs.declared.reader.Turn.TheVariants.{Row as IsRow}
 use Rattle.result_rows.specs.declared.reader.Reply.{Reply}
 use Rattle.result_rows.specs.declared.reader.Reply.TheVariants.{Done, Refused as IsRefused, Columns}
 use Rattle.sql_statements.specs.Form.{query_form}
@@ -24,9 +28,9 @@ use Rattle.my_session.proofs.Running.{leads_on, leads_said, leads_heard}
 use Rattle.my_session.specs.Awaited.{Awaited, count, further}
 use Rattle.my_session.specs.Channel.{ChannelView, channel_wire}
 use Rattle.my_session.specs.Halt.{Halts, Unsaid, Stops, at_message, at_payload}
-use Rattle.my_session.specs.Heard.{HearsReply, HearsDefinition, IsRowOf}
+use Rattle.my_session.specs.Heard.{HasColumns, HearsReply, HearsDefinition, IsRowOf}
 use Rattle.my_session.specs.Lead.{lead_of}
-use Rattle.my_session.specs.Session.{Runs}
+use Rattle.my_session.specs.Session.{Runs, rows_of}
 use Rattle.my_session.specs.Statements.{IsRun, RunAwaits, RunSends, IsLed, LeadAwaits, LeadSends, IsAsked, IsDescribed, QueryAwaits, a_lead, a_count, a_definition, QuerySends, the_lead, the_query, query_payload}
 use Rattle.my_session.specs.Wire.{Wire, Step, commands, hears, Leads, ends, Takes, behind_sent}
 use Rattle.my_session.specs.declared.fault.SessionFault.{SessionFault}
@@ -82,24 +86,6 @@ stops_lead query schema old new fault is (at_payload {steps = steps} {payload = 
 pub not_led : (query : Query) (schema part : List ℕ) (old new : Wire) (result : Result (Unit {0}) SessionFault) → lead_of query ≡ Some schema → part ≡ schema → Runs (Use part) old result new → IfErr result (λ fault. Stops (LeadAwaits query) (LeadSends query) old fault new)
 not_led query schema part old new (Ok finished) is same runs = tt
 not_led query schema part old new (Err fault) is same runs = stops_lead query part old new fault (is ∙ ap (λ (s : List ℕ). Some s) (sym same)) runs
-
--- ---- the number of columns
-
-count_by : (number : Option (ℕ × ℕ)) (size columns : ℕ) → option_and_then (λ (n : ℕ × ℕ). if n.1 == size && nat_le 1 n.0 && nat_le n.0 65535 then Some n.0 else None) number ≡ Some columns → 0 < columns
-count_by None size columns is = absurd (cc)
-count_by (Some (found, of)) size columns is = grind (arith, nat_tests)
-
-reply_by : (zeroes full done : Bool) (refusal : Option Refusal) (number : Option ℕ) (columns : ℕ) → (if zeroes then (if done then Some Done else None) else (if full then option_map (λ refusal. IsRefused refusal) refusal else option_map (λ count. Columns count) number)) ≡ Some (Columns columns) → number ≡ Some columns
-reply_by true full true refusal number columns e = absurd (cc)
-reply_by true full false refusal number columns e = absurd (cc)
-reply_by false true done None number columns e = absurd (cc)
-reply_by false true done (Some refusal) number columns e = absurd (cc)
-reply_by false false done refusal None columns e = absurd (cc)
-reply_by false false done refusal (Some number) columns e = cc
-
-pub some_columns : (payload : List ℕ) (columns : ℕ) → reply_of payload ≡ Some (Columns columns) → 0 < columns
-some_columns [] columns is = absurd (cc)
-some_columns (byte ∷ bytes) columns is = count_by (lenenc_of (byte ∷ bytes)) (length (byte ∷ bytes)) columns (reply_by (byte == 0) (byte == 255) (is_ok_packet (byte ∷ bytes)) (refusal_of (byte ∷ bytes)) (column_count (byte ∷ bytes)) columns is)
 
 -- ---- the definitions
 
@@ -224,12 +210,21 @@ row_no_definition columns (byte ∷ bytes) is = definition_by (byte == 254 && na
 in_place : (reading : Reading) (message : List ℕ) → reading.awaited ≡ 0 → further_of reading message ≡ row_of reading.columns message
 in_place reading message none = ap (λ (n : ℕ). further_of (record { columns = reading.columns; awaited = n }) message) none
 
-pub is_row_of : (reading : Reading) (message : List ℕ) (cells : List Cell) → reading.awaited ≡ 0 → further_of reading message ≡ row cells → IsRowOf reading message
+is_row_of : (reading : Reading) (message : List ℕ) (cells : List Cell) → reading.awaited ≡ 0 → further_of reading message ≡ row cells → IsRowOf reading message
 is_row_of reading message cells none is = record {
   cells = cells;
   cells_are = row_cells reading.columns message cells (sym (in_place reading message none) ∙ is);
   is = is;
 }
 
+pub judged_row : (reading now : Reading) (message : List ℕ) (place : ℕ) (turn : Turn) (found : Row) → reading.awaited ≡ 0 → turn ≡ IsRow found → IsTurn place (Ok turn) (further_of reading message) → now ≡ after reading (further_of reading message) → IsRowOf reading message × (now ≡ reading)
+judged_row reading now message place turn found none is told behind =
+    let said : IsTurn place (Ok (IsRow found)) (further_of reading message) = subst (λ (t : Turn). IsTurn place (Ok t) (further_of reading message)) is told in
+    (is_row_of reading message found.cells none said.0, behind ∙ ap (λ (f : Further). after reading f) said.0)
+
 pub rows_no_definition : (reading : Reading) (message : List ℕ) → reading.awaited ≡ 0 → further_of reading message ≡ definition → ⊥
 rows_no_definition reading message none is = row_no_definition reading.columns message (sym (in_place reading message none) ∙ is)
+
+-- so many definitions and their EOF were read
+pub at_rows : (reading : Reading) (columns : ℕ) → reading.columns ≡ columns → reading.awaited ≡ 0 → reading ≡ rows_of columns
+at_rows reading columns is none = ap (λ (n : ℕ). record reading { columns = n }) is ∙ ap (λ (n : ℕ). let r : Reading = record { columns = columns; awaited = n } in r) none

@@ -1,5 +1,5 @@
 -- What was heard, where a session goes on.
-use Rattle.std.specs.Prelude.{ℕ, ◌≡◌, Bool, true, false, List, [], ◌∷◌, ◌++◌, Option, Some, None, Result, Ok, Err}
+use Rattle.std.specs.Prelude.{ℕ, ◌≡◌, ◌<◌, Bool, true, false, List, [], ◌∷◌, ◌++◌, Option, Some, None, Result, Ok, Err}
 use Rattle.my_login.specs.Greeting.{greeting_of}
 use Rattle.my_login.specs.Switch.{switch_of}
 use Rattle.my_login.specs.declared.greeting.Greeting.{Greeting}
@@ -29,6 +29,13 @@ reading_of None = idle
 reading_of (Some Done) = idle
 reading_of (Some (Refused refusal)) = idle
 reading_of (Some (Columns columns)) = counted columns
+
+-- a result set has from 1 to 65,535 columns
+abbrev pub HasColumns : Option Reply → Type 0
+HasColumns None = Unit {0}
+HasColumns (Some Done) = Unit {0}
+HasColumns (Some (Refused refusal)) = Unit {0}
+HasColumns (Some (Columns columns)) = (0 < columns) × (columns < 65536)
 
 -- a greeting was heard
 pub record HearsGreeting (found : Greeting) (old new : Wire) : Type 0 where

@@ -6,7 +6,7 @@ ghost use Rattle.sql_statements.specs.Text.{command_text};
 ghost use Rattle.my_session.specs.Awaited.{done};
 ghost use Rattle.my_session.specs.Channel.{channel_wire, IsOfChannel};
 ghost use Rattle.my_session.specs.Halt.{Halts, Misheard};
-ghost use Rattle.my_session.specs.Heard.{HearsReply, reading_of};
+ghost use Rattle.my_session.specs.Heard.{HasColumns, HearsReply, reading_of};
 ghost use Rattle.my_session.specs.Session.{IsCounted, IsOfStatement, Runs, failed_by};
 ghost use Rattle.my_session.specs.Statements.{command_payload};
 
@@ -30,6 +30,7 @@ pub(crate) fn hear_reply<L: Link>(
     ensures alive { OnOk result (channel.new.has_failed ≡ false) }
     ensures kind { IfErr result IsOfChannel }
     ensures memory { result ≡ Err SessionFault.OutOfMemory → ⊥ }
+    ensures columns { IfOk result HasColumns }
     ensures reader { IfOk result (λ reply. reader.new ≡ reading_of reply) }
     ensures heard { IfOk result (λ reply. L.tells channel.old.link → HearsReply reply (channel_wire L.Link channel.old) (channel_wire L.Link channel.new)) }
     ensures err { IfErr result (λ fault. L.tells channel.old.link → Misheard (channel_wire L.Link channel.old) fault (channel_wire L.Link channel.new)) }
@@ -39,8 +40,10 @@ pub(crate) fn hear_reply<L: Link>(
 }
 
 /// Reads a reply's first message.
+#[tactic(auto, using(crate::proofs::Counting::has_columns))]
 pub(crate) fn read_reply(payload: &[u8], reader: &mut RowReader) -> Option<Reply>
     ensures reply { result ≡ reply_of payload.now }
+    ensures columns { HasColumns result }
     ensures reader { reader.new ≡ reading_of result }
 {
     reader.first(payload).ok()
