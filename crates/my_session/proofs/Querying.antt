@@ -12,6 +12,7 @@ use Rattle.result_rows.specs.Reply.{is_ok_packet, is_eof_packet, refusal_of, rep
 use Rattle.result_rows.specs.Row.{Cell, cells_of}
 use Rattle.result_rows.specs.ResultSet.{taken}
 use Rattle.result_rows.specs.declared.refusal.Refusal.{Refusal}
+use Rattle.result_rows.specs.RowCells.{row_cells}
 use Rattle.result_rows.specs.Turns.{IsTurn}
 use Rattle.result_rows.specs.declared.row.Row.{Row}
 use Rattle.result_rows.specs.declared.reader.Turn.{Turn}
@@ -198,9 +199,9 @@ definition_by false true eof (Some refusal) found is = cc
 definition_by false false eof refusal None is = cc
 definition_by false false eof refusal (Some found) is = cc
 
-row_cells : (columns : ℕ) (message : List ℕ) (cells : List Cell) → row_of columns message ≡ row cells → cells_of columns message ≡ Some cells
-row_cells columns [] cells is = absurd (cc)
-row_cells columns (byte ∷ bytes) cells is = row_by (byte == 254 && nat_lt (length bytes) 8) (byte == 255) (is_eof_packet (byte ∷ bytes)) (refusal_of (byte ∷ bytes)) (cells_of columns (byte ∷ bytes)) cells is
+cells_in_place : (columns : ℕ) (message : List ℕ) (cells : List Cell) → row_of columns message ≡ row cells → cells_of columns message ≡ Some cells
+cells_in_place columns [] cells is = absurd (cc)
+cells_in_place columns (byte ∷ bytes) cells is = row_by (byte == 254 && nat_lt (length bytes) 8) (byte == 255) (is_eof_packet (byte ∷ bytes)) (refusal_of (byte ∷ bytes)) (cells_of columns (byte ∷ bytes)) cells is
 
 row_no_definition : (columns : ℕ) (message : List ℕ) → row_of columns message ≡ definition → ⊥
 row_no_definition columns [] is = cc
@@ -213,14 +214,14 @@ in_place reading message none = ap (λ (n : ℕ). further_of (record { columns =
 is_row_of : (reading : Reading) (message : List ℕ) (cells : List Cell) → reading.awaited ≡ 0 → further_of reading message ≡ row cells → IsRowOf reading message
 is_row_of reading message cells none is = record {
   cells = cells;
-  cells_are = row_cells reading.columns message cells (sym (in_place reading message none) ∙ is);
+  cells_are = cells_in_place reading.columns message cells (sym (in_place reading message none) ∙ is);
   is = is;
 }
 
 pub judged_row : (reading now : Reading) (message : List ℕ) (place : ℕ) (turn : Turn) (found : Row) → reading.awaited ≡ 0 → turn ≡ IsRow found → IsTurn place (Ok turn) (further_of reading message) → now ≡ after reading (further_of reading message) → IsRowOf reading message × (now ≡ reading)
 judged_row reading now message place turn found none is told behind =
     let said : IsTurn place (Ok (IsRow found)) (further_of reading message) = subst (λ (t : Turn). IsTurn place (Ok t) (further_of reading message)) is told in
-    (is_row_of reading message found.cells none said.0, behind ∙ ap (λ (f : Further). after reading f) said.0)
+    (is_row_of reading message (row_cells found) none said.0, behind ∙ ap (λ (f : Further). after reading f) said.0)
 
 pub rows_no_definition : (reading : Reading) (message : List ℕ) → reading.awaited ≡ 0 → further_of reading message ≡ definition → ⊥
 rows_no_definition reading message none is = row_no_definition reading.columns message (sym (in_place reading message none) ∙ is)

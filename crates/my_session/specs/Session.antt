@@ -4,6 +4,7 @@ use Rattle.link_traits.specs.Cause.{Rose}
 use Rattle.link_traits.specs.Link.{stream}
 use Rattle.link_traits.specs.declared.link.Link.{Ghosts}
 use Rattle.result_rows.specs.Reading.{Reading, Further, row, end, idle, further_of}
+use Rattle.result_rows.specs.RowCells.{row_cells}
 use Rattle.result_rows.specs.declared.row.Row.{Row}
 use Rattle.sql_statements.specs.Form.{query_form}
 use Rattle.sql_statements.specs.declared.command.Command.{Command}
@@ -83,7 +84,7 @@ PendingBehind query (Err fault) pending = pending.reading ≡ idle
 pub record HearsRow (reading : Reading) (found : Row) (old new : Wire) : Type 0 where
   pub message : List ℕ
   pub heard : Hears message old new
-  pub row_is : further_of reading message ≡ row found.cells
+  pub row_is : further_of reading message ≡ row (row_cells found)
   pub place_is : found.place ≡ old.place
 
 -- the next message was heard and is the end of the rows

@@ -4,5 +4,5 @@ pub mod Reading
 pub mod Reply
 pub mod ResultSet
 pub mod Row
-pub mod RowView
+pub mod RowCells
 pub mod Turns

@@ -1,6 +1,7 @@
 -- What a reader of replies answers.
 use Rattle.std.specs.Prelude.{ℕ, ◌≡◌, ◌==◌, if◌then◌else◌, List, [], ◌∷◌, Option, Some, None, Result, Ok, Err}
 use Rattle.result_rows.specs.Reading.{Reading, Further, definition, row, end, refused, garbled, counted, idle}
+use Rattle.result_rows.specs.RowCells.{row_cells}
 use Rattle.result_rows.specs.declared.reader.Reply.{Reply}
 use Rattle.result_rows.specs.declared.reader.Reply.TheVariants.{Done, Refused, Columns}
 use Rattle.result_rows.specs.declared.reader.ReplyFault.{ReplyFault}
@@ -23,7 +24,7 @@ IsReply payload (Some (Columns count)) result new = (result ≡ Ok (Columns coun
 -- the answer to a further message, which began at this place of the stream
 abbrev pub IsTurn : ℕ → Result Turn ReplyFault → Further → Type 0
 IsTurn place (Ok Definition) further = further ≡ definition
-IsTurn place (Ok (Row found)) further = (further ≡ row found.cells) × (found.place ≡ place)
+IsTurn place (Ok (Row found)) further = (further ≡ row (row_cells found)) × (found.place ≡ place)
 IsTurn place (Ok End) further = further ≡ end
 IsTurn place (Ok (TurnRefused refusal)) further = further ≡ refused refusal
 IsTurn place (Err Garbled) further = further ≡ garbled

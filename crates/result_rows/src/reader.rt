@@ -3,6 +3,7 @@ ghost use Rattle.std.specs.Prelude.{◌≡◌, ◌<◌, Some, IsSome};
 ghost use Rattle.result_rows.specs.Reply.{reply_of};
 ghost use Rattle.result_rows.specs.Reading.{idle, counted, row_of, further_of, after};
 ghost use Rattle.result_rows.specs.Row.{cells_of};
+ghost use Rattle.result_rows.specs.RowCells.{row_cells};
 ghost use Rattle.result_rows.specs.Turns.{IsReply, IsTurn};
 
 use crate::fields::{column_count, is_definition, is_eof_packet, is_ok_packet};
@@ -134,7 +135,7 @@ impl RowReader {
     pub fn found_row<'a>(&self, message: Message<'a>) -> Row<'a>
         requires { IsSome (cells_of self.now.columns message.payload.now) }
 
-        ensures cells { cells_of self.now.columns message.entry.payload.now ≡ Some result.cells }
+        ensures cells { cells_of self.now.columns message.entry.payload.now ≡ Some (row_cells result) }
         ensures place { result.place ≡ message.entry.place }
     {
         Row::known(self.columns, message.payload, message.place)

@@ -7,30 +7,21 @@ use std::marker::Model;
 
 /// A row of a text result set, in the bytes of its message. (MySQL source documentation,
 /// `ProtocolText::ResultsetRow`.)
-#[derive(Drop)]
+#[derive(Clone, Copy)]
 pub struct Row<'a> {
     payload: &'a [u8],
     columns: u32,
     place: u64,
-}
-
-impl<'a> Model for Row<'a> {
-    ghost use Rattle.std.specs.Prelude.{IsSome};
-    ghost use Rattle.result_rows.specs.Row.{cells_of, cells_or_none};
-    ghost use Rattle.result_rows.specs.RowView.{RowView};
-
-    ghost Value = { RowView };
-
-    ghost view = { λ row. record { cells = cells_or_none row.columns row.payload.now; place = row.place } };
-
-    ghost invariant = { λ row. IsSome (cells_of row.columns row.payload.now) };
+    ghost readable: { IsSome (cells_of columns payload.now) },
 }
 
 impl<'a> Row<'a> {
+    ghost use Rattle.result_rows.specs.RowCells.{row_cells};
+
     // Reads a row of so many columns, of the message that began at this place.
     #[inline]
     pub(crate) fn read(columns: u32, payload: &'a [u8], place: u64) -> Option<Row<'a>>
-        ensures { MatchOption result (cells_of columns payload.now ≡ None) (λ row. (cells_of columns payload.now ≡ Some row.cells) × (row.place ≡ place)) }
+        ensures { MatchOption result (cells_of columns payload.now ≡ None) (λ row. (cells_of columns payload.now ≡ Some (row_cells row)) × (row.place ≡ place)) }
     {
         if !are_cells(columns, payload) {
             return None;
@@ -47,7 +38,7 @@ impl<'a> Row<'a> {
     pub(crate) fn known(columns: u32, payload: &'a [u8], place: u64) -> Row<'a>
         requires { IsSome (cells_of columns payload.now) }
 
-        ensures cells { cells_of columns payload.now ≡ Some result.cells }
+        ensures cells { cells_of columns payload.now ≡ Some (row_cells result) }
         ensures place { result.place ≡ place }
     {
         Row {
@@ -61,7 +52,7 @@ impl<'a> Row<'a> {
     #[inline]
     #[tactic(auto, using(crate::proofs::Walks::length_cells))]
     pub fn columns(&self) -> u32
-        ensures { result ≡ length self.now.cells }
+        ensures { result ≡ length (row_cells self.now) }
     {
         self.columns
     }
@@ -77,9 +68,9 @@ impl<'a> Row<'a> {
     /// The cell of this number, counted from 0; `None` where it is NULL. It is found by a walk over
     /// those before it. Takes no memory.
     pub fn cell(&self, i: u32) -> Option<&'a [u8]>
-        requires there { i < length self.now.cells }
+        requires there { i < length (row_cells self.now) }
 
-        ensures { option_copied result ≡ slice_index_or self.now.cells i None }
+        ensures { option_copied result ≡ slice_index_or (row_cells self.now) i None }
     {
         self.cells().nth(i as usize).flatten()
     }
@@ -87,7 +78,7 @@ impl<'a> Row<'a> {
     /// The cells in order, each `None` where it is NULL. Takes no memory.
     #[inline]
     pub fn cells(&self) -> Cells<'a>
-        ensures { result ≡ self.now.cells }
+        ensures { result ≡ row_cells self.now }
     {
         Cells {
             rest: self.payload,

@@ -1,0 +1,8 @@
+-- A row as a caller sees it.
+use Rattle.std.specs.Prelude.{List}
+use Rattle.result_rows.specs.Row.{Cell, cells_or_none}
+use Rattle.result_rows.specs.declared.row.Row.{Row}
+
+-- the cells of a row
+abbrev pub row_cells : Row → List Cell
+row_cells row = cells_or_none row.columns row.payload.now
