@@ -1,7 +1,8 @@
 -- The greeting of a server (MySQL source documentation, Protocol::HandshakeV10).
 use Rattle.std.specs.Prelude.{ℕ, ◌==◌, ◌&&◌, ◌+◌, ◌-◌, nat_le, max, if◌then◌else◌, Bool, true, false, List, [], ◌∷◌, ◌++◌, length, take, drop, slice_index, bit_and, Option, Some, None, option_map, option_and_then, unwrap_or, ok_or, Result, Err}
 use Rattle.std.specs.Int.{w32, from_le_bytes}
-use Rattle.result_rows.specs.Reply.{kept_text, refusal_of}
+use Rattle.result_rows.specs.KeptText.{kept_text}
+use Rattle.result_rows.specs.Reply.{refusal_of}
 use Rattle.my_login.specs.Texts.{text_size, to_zero, native_password}
 use Rattle.my_login.specs.declared.greeting.Greeting.{Greeting}
 use Rattle.my_login.specs.declared.fault.LoginFault.{LoginFault}

@@ -1,6 +1,6 @@
 -- A request for another plugin (MySQL source documentation, Protocol::AuthSwitchRequest, Protocol::OldAuthSwitchRequest).
 use Rattle.std.specs.Prelude.{ℕ, ◌==◌, ◌&&◌, ◌||◌, if◌then◌else◌, List, [], ◌∷◌, length, take, slice_index, Option, Some, None, option_map, ok_or, codes, bytes_eq, Result, Err}
-use Rattle.result_rows.specs.Reply.{kept_text}
+use Rattle.result_rows.specs.KeptText.{kept_text}
 use Rattle.my_login.specs.Texts.{to_zero, native_password}
 use Rattle.my_login.specs.declared.switch.Switch.{Switch}
 use Rattle.my_login.specs.declared.fault.LoginFault.{LoginFault}
@@ -23,7 +23,7 @@ switch_named (Some parts) = switch_to parts.0 parts.1
 
 -- what stands behind the first byte: nothing, where the oldest plugin is asked for
 abbrev pub behind_request : List ℕ → Result Switch LoginFault
-behind_request [] = Err (PluginUnsupported (codes "mysql_old_password"))
+behind_request [] = Err (PluginUnsupported (kept_text (codes "mysql_old_password")))
 behind_request (byte ∷ bytes) = switch_named (to_zero (byte ∷ bytes))
 
 -- a request for another plugin: fe, and what names it

@@ -1,5 +1,5 @@
 pub mod Definition
-pub mod Padded
+pub mod KeptText
 pub mod Reading
 pub mod Reply
 pub mod ResultSet

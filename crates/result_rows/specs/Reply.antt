@@ -3,6 +3,7 @@ use Rattle.std.specs.Prelude.{ℕ, ◌≡◌, ◌+◌, ◌*◌, ◌==◌, ◌&&�
 use Rattle.std.specs.Option.{option_map_or}
 use Rattle.my_packets.specs.Lenenc.{lenenc_of}
 use Rattle.result_rows.specs.Definition.{column_count}
+use Rattle.result_rows.specs.KeptText.{kept_text}
 use Rattle.result_rows.specs.declared.refusal.Refusal.{Refusal}
 use Rattle.result_rows.specs.declared.reader.Reply.{Reply}
 use Rattle.result_rows.specs.declared.reader.Reply.TheVariants.{Done, Refused, Columns}
@@ -21,13 +22,9 @@ abbrev pub is_eof_packet : List ℕ → Bool
 is_eof_packet [] = false
 is_eof_packet (byte ∷ bytes) = byte == 254 && nat_le 4 (length bytes) && nat_lt (length bytes) 8
 
--- the message of an ERR is kept to so many bytes
-abbrev pub kept_text : List ℕ → List ℕ
-kept_text bytes = take 512 bytes
-
 -- what an ERR says behind its code: `#`, the state's five bytes and the message, or the message alone
 abbrev pub refusal_of_code : ℕ → List ℕ → Option Refusal
-refusal_of_code code [] = Some (record { code = code; state = codes "HY000"; message = [] })
+refusal_of_code code [] = Some (record { code = code; state = codes "HY000"; message = kept_text [] })
 refusal_of_code code (byte ∷ bytes) =
     if byte == 35 then (if nat_le 5 (length bytes) then Some (record { code = code; state = take 5 bytes; message = kept_text (drop 5 bytes) }) else None) else
     Some (record { code = code; state = codes "HY000"; message = kept_text (byte ∷ bytes) })
