@@ -1,6 +1,7 @@
 // Columns.
 ghost use Rattle.std.specs.Prelude.{◌≡◌, true, false, IfOk, MatchOption, bytes_eq, option_copied};
 ghost use Rattle.std.specs.List.{list_any};
+ghost use Rattle.result_rows.specs.RowCells.{row_cells};
 ghost use Rattle.dumper_cli.specs.Columns.{kind_of, holds, is_generated, is_utf8, described, column_of};
 
 use result_rows::Row;
@@ -136,7 +137,7 @@ fn described(
 /// Manual, 28.3.8.)
 #[tactic(auto, using(crate::proofs::Rows::column_of_cells, crate::proofs::Rows::too_short))]
 pub fn column_of(alloc: Global, row: &Row<'_>) -> Result<Option<Column>, OutOfMemory>
-    ensures { IfOk result (λ found. found ≡ column_of row.now.cells) }
+    ensures { IfOk result (λ found. found ≡ column_of (row_cells row.now)) }
 {
     if row.columns() < 4 {
         return Ok(None);

@@ -1,6 +1,7 @@
 // The rows of the table, read from the answer to their query and written to the file one by one.
 ghost use Rattle.std.specs.Prelude.{◌≡◌, ◌<◌, [], ◌∷◌, true, IfErr, IfOk, OnOk};
 ghost use Rattle.result_rows.specs.Reading.{further_of};
+ghost use Rattle.result_rows.specs.RowCells.{row_cells};
 ghost use Rattle.dumper_cli.specs.Columns.{is_row_of};
 ghost use Rattle.dumper_cli.specs.Next.{NextRow, Broke, Copied};
 ghost use Rattle.dumper_cli.specs.Place.{rows_asked, rows_come};
@@ -25,9 +26,9 @@ fn write_row<S: Shelf>(
     file: &mut DataFile<S>,
 ) -> Result<(), DumpFault>
     ensures keeps { KeepsFile S.Shelf file.old file.new }
-    ensures ok { OnOk result (Adds S.Shelf columns.now (row.now.cells ∷ []) file.old file.new) }
-    ensures taken { OnOk result (is_row_of columns.now row.now.cells ≡ true) }
-    ensures err { IfErr result (λ fault. Unwritten S.Shelf columns.now row.now.cells file.old file.new fault) }
+    ensures ok { OnOk result (Adds S.Shelf columns.now ((row_cells row.now) ∷ []) file.old file.new) }
+    ensures taken { OnOk result (is_row_of columns.now (row_cells row.now) ≡ true) }
+    ensures err { IfErr result (λ fault. Unwritten S.Shelf columns.now (row_cells row.now) file.old file.new fault) }
 {
     match file.row(columns, row) {
         Ok(()) => Ok(()),

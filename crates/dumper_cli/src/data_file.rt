@@ -2,6 +2,7 @@
 ghost use Rattle.std.specs.Prelude.{◌≡◌, ◌<◌, ◌≤◌, ◌↔◌, ◌∷◌, ◌++◌, [], ℕ, List, true, false, length, IfOk, IfErr, OnOk, OnErr};
 ghost use Rattle.link_traits.specs.Cause.{Rose, HasCause};
 ghost use Rattle.link_traits.specs.Folder.{longer, finished};
+ghost use Rattle.result_rows.specs.RowCells.{row_cells};
 ghost use Rattle.dumper_cli.specs.Columns.{is_row_of};
 ghost use Rattle.dumper_cli.specs.DataFile.{Text, row_text, first_row, with_row, insert_head, file_name, table_files};
 
@@ -78,8 +79,8 @@ fn head_of(alloc: Global, table: &Name, columns: &[Column]) -> Result<Buffer, Ou
 
 // Spells a row.
 fn spell(columns: &[Column], row: &Row<'_>, out: &mut Buffer) -> Result<(), WriteFault>
-    ensures ok { OnOk result (out.new.bytes ≡ row_text columns.now row.now.cells) }
-    ensures mismatch { result ≡ Err WriteFault.Mismatch ↔ is_row_of columns.now row.now.cells ≡ false }
+    ensures ok { OnOk result (out.new.bytes ≡ row_text columns.now (row_cells row.now)) }
+    ensures mismatch { result ≡ Err WriteFault.Mismatch ↔ is_row_of columns.now (row_cells row.now) ≡ false }
     ensures not_file { result ≡ Err WriteFault.File → ⊥ }
 {
     out.clear();
@@ -247,10 +248,10 @@ impl<S: Shelf> DataFile<S> {
     /// of the file no more is to be written to it.
     pub fn row(&mut self, columns: &[Column], row: &Row<'_>) -> Result<(), WriteFault>
         ensures kept { KeepsFile S.Shelf self.old self.new }
-        ensures ok { OnOk result ((schema table : List ℕ) (rows : List (List Cell)) → IsWriting S.Shelf schema table columns.now rows self.old → IsWriting S.Shelf schema table columns.now (rows ++ row.now.cells ∷ []) self.new) }
+        ensures ok { OnOk result ((schema table : List ℕ) (rows : List (List Cell)) → IsWriting S.Shelf schema table columns.now rows self.old → IsWriting S.Shelf schema table columns.now (rows ++ (row_cells row.now) ∷ []) self.new) }
         ensures waits { OnOk result (length self.new.waiting.bytes < WAITING_SIZE) }
         ensures same { IfErr result (λ fault. (fault ≡ WriteFault.File → ⊥) → IsSame S.Shelf self.old self.new) }
-        ensures mismatch { result ≡ Err WriteFault.Mismatch ↔ is_row_of columns.now row.now.cells ≡ false }
+        ensures mismatch { result ≡ Err WriteFault.Mismatch ↔ is_row_of columns.now (row_cells row.now) ≡ false }
         ensures cause { result ≡ Err WriteFault.File → Rose (S.faults self.old.shelf) (S.faults self.new.shelf) }
     {
         spell(columns, row, &mut self.spelled)?;

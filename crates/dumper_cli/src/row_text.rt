@@ -1,5 +1,6 @@
 // The text of names, rows and statements.
 ghost use Rattle.std.specs.Prelude.{◌≡◌, ◌↔◌, ◌≤◌, ◌+◌, ◌∷◌, [], ◌++◌, length, codes, false, true, IfOk, OnOk, OnErr, IsErrOf, option_copied};
+ghost use Rattle.result_rows.specs.RowCells.{row_cells};
 ghost use Rattle.sql_literals.specs.Literal.{literal, has_literal};
 ghost use Rattle.sql_literals.specs.Name.{quoted_name};
 ghost use Rattle.dumper_cli.specs.Columns.{is_row_of};
@@ -81,8 +82,8 @@ fn cell_behind(
 // Appends the literals of a row's cells, the first behind `(` and each later one behind a comma.
 // All cells are seen, also where memory runs out.
 fn cells_into(columns: &[Column], row: &Row<'_>, out: &mut Buffer) -> Result<(), RowFault>
-    ensures ok { OnOk result (out.new.bytes ≡ out.old.bytes ++ led 40 (literals columns.now row.now.cells)) }
-    ensures mismatch { result ≡ Err RowFault.Mismatch ↔ is_row_of columns.now row.now.cells ≡ false }
+    ensures ok { OnOk result (out.new.bytes ≡ out.old.bytes ++ led 40 (literals columns.now (row_cells row.now))) }
+    ensures mismatch { result ≡ Err RowFault.Mismatch ↔ is_row_of columns.now (row_cells row.now) ≡ false }
 {
     let mut cells = row.cells();
     let mut lead = b'(';
@@ -111,9 +112,9 @@ fn cells_into(columns: &[Column], row: &Row<'_>, out: &mut Buffer) -> Result<(),
 /// mismatch exactly where the row isn't one of these columns; else only want of memory refuses it.
 /// After a refusal a part of it may be appended.
 pub fn row_into(columns: &[Column], row: &Row<'_>, out: &mut Buffer) -> Result<(), RowFault>
-    ensures ok { OnOk result (out.new.bytes ≡ out.old.bytes ++ row_text columns.now row.now.cells) }
-    ensures is_row { OnOk result (is_row_of columns.now row.now.cells ≡ true) }
-    ensures mismatch { result ≡ Err RowFault.Mismatch ↔ is_row_of columns.now row.now.cells ≡ false }
+    ensures ok { OnOk result (out.new.bytes ≡ out.old.bytes ++ row_text columns.now (row_cells row.now)) }
+    ensures is_row { OnOk result (is_row_of columns.now (row_cells row.now) ≡ true) }
+    ensures mismatch { result ≡ Err RowFault.Mismatch ↔ is_row_of columns.now (row_cells row.now) ≡ false }
 {
     cells_into(columns, row, out)?;
     byte_into(b')', out).map_err(|_| RowFault::OutOfMemory)
