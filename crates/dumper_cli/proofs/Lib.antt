@@ -8,7 +8,6 @@ pub mod Outcomes
 pub mod Over
 pub mod OverSite
 pub mod Plugin
-pub mod QuotedNames
 pub mod Replied
 pub mod RowTaking
 pub mod Rows

@@ -1,10 +1,9 @@
 -- One message more of the columns.
 use Rattle.std.proofs.Common.{◌≡◌, Bool, true, false, ℕ, List, refl, sym, ◌∙◌, ap}
-use Rattle.my_packets.specs.Packet.{next_id}
 use Rattle.link_traits.specs.declared.link.Link.{Ghosts}
 use Rattle.result_rows.specs.Reading.{Reading, end, further_of}
 use Rattle.dumper_cli.specs.Next.{NextColumn}
-use Rattle.dumper_cli.specs.Place.{Turn, more_if, can_ask, at_columns, columns_come, rows_asked, turn_of}
+use Rattle.dumper_cli.specs.Place.{Turn, more_if, can_ask, at_columns, columns_come, rows_asked, id_past, turn_of}
 use Rattle.dumper_cli.specs.Session.{Listens, Advances, Hears}
 use Rattle.dumper_cli.specs.Taking.{TakesColumn, CannotAsk}
 use Rattle.dumper_cli.specs.Turned.{EndsAt}
@@ -17,7 +16,7 @@ use Rattle.dumper_cli.proofs.Onward.{At-hears, Halted-turned}
 
 -- behind the last column the run goes on, or ends
 turn_at_end : (asked : Asked) (id : ℕ) (reading : Reading) (columns : List Column) (payload message : List ℕ) → payload ≡ message → further_of reading payload ≡ end → turn_of asked (columns_come id reading columns) message ≡ more_if (can_ask asked.schema asked.table columns) (rows_asked columns)
-turn_at_end asked id reading columns payload message same ends = ap (λ (m : List ℕ). at_columns asked (columns_come (next_id id)) reading columns (further_of reading m)) (sym same) ∙ ap (at_columns asked (columns_come (next_id id)) reading columns) ends
+turn_at_end asked id reading columns payload message same ends = ap (λ (m : List ℕ). at_columns asked (columns_come (id_past id message)) reading columns (further_of reading m)) (sym same) ∙ ap (at_columns asked (columns_come (id_past id message)) reading columns) ends
 
 ends_where_unasked : (asked : Asked) (columns : List Column) (turn : Turn) (fault : SessionFault) → turn ≡ more_if (can_ask asked.schema asked.table columns) (rows_asked columns) → CannotAsk asked.schema asked.table columns fault → EndsAt fault turn
 ends_where_unasked asked columns turn Link is cannot = absurd cannot
@@ -31,8 +30,8 @@ module _ {L : Type 0} (of : Ghosts L) where
       → TakesColumn goes_on reading columns (further_of reading payload) later now → NextColumn of goes_on id reading columns a later now b
   Next-column true id reading columns payload later now a b listens advances hears same takes = record {
     pending = takes.pending;
-    reached = λ asked start at. At-hears of asked (columns_come id reading columns) (columns_come (next_id id) later now) _ start id a b at listens advances hears refl
-        (ap (λ (m : List ℕ). at_columns asked (columns_come (next_id id)) reading columns (further_of reading m)) (sym same) ∙ takes.turns asked (columns_come (next_id id)));
+    reached = λ asked start at. At-hears of asked (columns_come id reading columns) (columns_come (id_past id b.frames.message) later now) _ start id a b at listens advances hears refl
+        (ap (λ (m : List ℕ). at_columns asked (columns_come (id_past id b.frames.message)) reading columns (further_of reading m)) (sym same) ∙ takes.turns asked (columns_come (id_past id b.frames.message)));
   }
   Next-column false id reading columns payload later now a b listens advances hears same takes = record {
     same = takes.same;

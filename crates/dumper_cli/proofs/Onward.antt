@@ -1,10 +1,12 @@
 -- One message more, heard or said.
 use Rattle.std.proofs.Common.{◌≡◌, ◌≤◌, ◌+◌, ◌-◌, ◌^◌, ℕ, List, [], ◌∷◌, ◌++◌, length, length-append, take, refl, sym, ◌∙◌, ap, subst, append_assoc, inl, inr, arith}
-use Rattle.my_packets.specs.Packet.{packet}
+use Rattle.my_packets.specs.Front.{HasMessage}
+use Rattle.my_packets.specs.Packet.{packets}
+use Rattle.my_packets.proofs.Packets.{packets_length}
 use Rattle.link_traits.specs.Cause.{Rose}
 use Rattle.link_traits.specs.declared.link.Link.{Ghosts}
 use Rattle.result_rows.specs.declared.refusal.Refusal.{Refusal}
-use Rattle.dumper_cli.specs.Heard.{HasPacket, Leads, further, Comes, heard_of}
+use Rattle.dumper_cli.specs.Heard.{Leads, further, Comes, heard_of}
 use Rattle.dumper_cli.specs.Place.{Place, Turn, more, stopped, unread, id_of, turn_of}
 use Rattle.dumper_cli.specs.Run.{Start, At, Reached, StoppedBy, SaidFront, Halted}
 use Rattle.dumper_cli.specs.Said.{said}
@@ -14,34 +16,34 @@ use Rattle.dumper_cli.specs.Words.{Asked}
 use Rattle.dumper_cli.specs.declared.session.Session.{Session}
 use Rattle.dumper_cli.specs.declared.session.SessionFault.{SessionFault}
 use Rattle.dumper_cli.specs.declared.session.SessionFault.TheVariants.{Link, Refused, Garbled, StreamTooLong, OutOfMemory}
+use Rattle.dumper_cli.specs.declared.session.TheConstants.{MESSAGE_LIMIT}
 use Rattle.dumper_cli.proofs.Unheard.{take_behind}
 
 pub Rose-later : (a b c : ℕ) → a ≤ b → Rose b c → Rose a c
 Rose-later a b c le rose = omega arith
 
-length_packet : (id : ℕ) (message : List ℕ) → length (packet id message) ≡ 4 + length message
-length_packet id message = omega arith
-
 module _ {L : Type 0} (of : Ghosts L) (asked : Asked) where
-  -- the packet that was heard is the first of what was unheard
-  unheard_packet : (id : ℕ) (a b : Session L) → Advances a b → Hears of id a b → HasPacket id b.frames.message (unheard of a) (unheard of b)
-  unheard_packet id a b advances hears =
+  -- the message that was heard is the first of what was unheard
+  unheard_message : (id : ℕ) (a b : Session L) → Advances a b → Hears of id a b → HasMessage MESSAGE_LIMIT id b.frames.message (unheard of a) (unheard of b)
+  unheard_message id a b advances hears =
       let place = advances.place in
       let within = b.within in
       let counted = b.counted in
-      let fits : length (packet id b.frames.message) ≤ 2 ^ 62 - a.frames.place = omega arith in
-      let left : 2 ^ 62 - a.frames.place - length (packet id b.frames.message) ≡ 2 ^ 62 - b.frames.place = omega arith in
+      let size = packets_length id b.frames.message in
+      let fits : length (packets id b.frames.message) ≤ 2 ^ 62 - a.frames.place = omega arith in
+      let left : 2 ^ 62 - a.frames.place - length (packets id b.frames.message) ≡ 2 ^ 62 - b.frames.place = omega arith in
       record {
-        short = hears.packet_is.short;
-        bytes_are = ap (λ (l : List ℕ). take (2 ^ 62 - a.frames.place) l) hears.packet_is.bytes_are
-            ∙ (take_behind (2 ^ 62 - a.frames.place) (packet id b.frames.message) (stream_of of b) fits
-            ∙ ap (λ (n : ℕ). packet id b.frames.message ++ take n (stream_of of b)) left);
+        short = hears.message_is.short;
+        bytes_are = ap (λ (l : List ℕ). take (2 ^ 62 - a.frames.place) l) hears.message_is.bytes_are
+            ∙ (take_behind (2 ^ 62 - a.frames.place) (packets id b.frames.message) (stream_of of b) fits
+            ∙ ap (λ (n : ℕ). packets id b.frames.message ++ take n (stream_of of b)) left);
       }
 
   unheard_count : (id : ℕ) (a b : Session L) → Advances a b → Hears of id a b → a.frames.place + length (unheard of a) ≡ b.frames.place + length (unheard of b)
   unheard_count id a b advances hears =
       let place = advances.place in
-      let bytes : length (unheard of a) ≡ length (packet id b.frames.message) + length (unheard of b) = ap length (unheard_packet id a b advances hears).bytes_are ∙ length-append (packet id b.frames.message) (unheard of b) in
+      let size = packets_length id b.frames.message in
+      let bytes : length (unheard of a) ≡ length (packets id b.frames.message) + length (unheard of b) = ap length (unheard_message id a b advances hears).bytes_are ∙ length-append (packets id b.frames.message) (unheard of b) in
       omega arith
 
   -- the run goes on at the next place
@@ -49,7 +51,7 @@ module _ {L : Type 0} (of : Ghosts L) (asked : Asked) where
   At-hears place next messages start id a b at listens advances hears is turns = record {
     later = let one = at.later in let two = listens.later in omega arith;
     sent = λ t. let u = listens.tells.1 t in listens.sent u ∙ at.sent u;
-    leads = λ t. let u = listens.tells.1 t in further (at.leads u) (subst (λ (n : ℕ). HasPacket n b.frames.message (unheard of a) (unheard of b)) is (unheard_packet id a b advances (hears u))) turns;
+    leads = λ t. let u = listens.tells.1 t in further (at.leads u) (subst (λ (n : ℕ). HasMessage MESSAGE_LIMIT n b.frames.message (unheard of a) (unheard of b)) is (unheard_message id a b advances (hears u))) turns;
     count = λ t. let u = listens.tells.1 t in at.count u ∙ unheard_count id a b advances (hears u);
   }
 
@@ -63,7 +65,7 @@ module _ {L : Type 0} (of : Ghosts L) (asked : Asked) where
         bytes = unheard of a;
         behind = unheard of b;
         leads = at.leads u;
-        packet_is = subst (λ (n : ℕ). HasPacket n b.frames.message (unheard of a) (unheard of b)) is (unheard_packet id a b advances (hears u));
+        packet_is = subst (λ (n : ℕ). HasMessage MESSAGE_LIMIT n b.frames.message (unheard of a) (unheard of b)) is (unheard_message id a b advances (hears u));
         turns = turns;
       }
 
@@ -95,7 +97,7 @@ module _ {L : Type 0} (of : Ghosts L) (asked : Asked) where
   Stopped-misheard place messages start id a b Garbled at listens is why = λ t. let u = listens.tells.1 t in inr (record { place = place; bytes = unheard of a; leads = at.leads u; wrong = rw (← is) (why u) })
   Stopped-misheard place messages start id a b StreamTooLong at listens is why = λ t. let u = listens.tells.1 t in record {
     full = at.count u ∙ (why u).full;
-    unfinished = record { place = place; bytes = unheard of a; leads = at.leads u; part = rw (← is) (why u).part };
+    unfinished = record { place = place; bytes = unheard of a; leads = at.leads u; more = (why u).more; part = rw (← is) (why u).part };
   }
   Stopped-misheard place messages start id a b OutOfMemory at listens is why = tt
 

@@ -12,7 +12,7 @@ use Rattle.dumper_cli.specs.Run.{Start, Reached, SaidFront, Halted}
 use Rattle.dumper_cli.specs.Said.{messages}
 use Rattle.dumper_cli.specs.Session.{unheard, Keeps, Quits}
 use Rattle.dumper_cli.specs.Taking.{CanAsk, IsAbout}
-use Rattle.dumper_cli.specs.Texts.{query, rows_text}
+use Rattle.dumper_cli.specs.Texts.{query, column_names}
 use Rattle.dumper_cli.specs.Words.{Asked}
 use Rattle.dumper_cli.specs.declared.column.Column.{Column}
 use Rattle.dumper_cli.specs.declared.data_file.DataFile.{DataFile}
@@ -22,9 +22,11 @@ use Rattle.dumper_cli.specs.declared.session.Session.{Session}
 use Rattle.dumper_cli.specs.declared.session.SessionFault.TheVariants.{Link, Refused, Garbled, StreamTooLong, OutOfMemory}
 use Rattle.dumper_cli.specs.declared.session.TheConstants.{QUIT}
 use Rattle.dumper_cli.proofs.Onward.{Rose-later}
+use Rattle.sql_statements.specs.Text.{query_text}
+use Rattle.sql_statements.specs.declared.query.Query.TheVariants.{Rows}
 
-pub asks_rows : (asked : Asked) (schema table : List ℕ) (columns : List Column) (payload made : List ℕ) → IsAbout asked schema table → CanAsk schema table columns made → payload ≡ made → payload ≡ query (rows_text asked.schema asked.table columns)
-asks_rows asked schema table columns payload made about can same = same ∙ (can.query_is ∙ (ap (λ (s : List ℕ). query (rows_text s table columns)) (sym about.schema_is) ∙ ap (λ (t : List ℕ). query (rows_text asked.schema t columns)) (sym about.table_is)))
+pub asks_rows : (asked : Asked) (schema table : List ℕ) (columns : List Column) (payload made : List ℕ) → IsAbout asked schema table → CanAsk schema table columns made → payload ≡ made → payload ≡ query (query_text (Rows (column_names columns) asked.schema asked.table))
+asks_rows asked schema table columns payload made about can same = same ∙ (can.query_is ∙ (ap (λ (s : List ℕ). query (query_text (Rows (column_names columns) s table))) (sym about.schema_is) ∙ ap (λ (t : List ℕ). query (query_text (Rows (column_names columns) asked.schema t))) (sym about.table_is)))
 
 module _ {L : Type 0} (of : LinkGhosts L) (asked : Asked) where
   pub Halted-memory : (place : Place) (start : Start) (a : Session L) → Reached of asked place start a → Halted of asked start a OutOfMemory

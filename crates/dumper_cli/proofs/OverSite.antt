@@ -1,13 +1,13 @@
 -- A dump over a link of a site, seen from the site.
-use Rattle.std.proofs.Common.{◌≡◌, ◌≤◌, ◌+◌, ◌-◌, ◌^◌, min, ℕ, List, [], ◌∷◌, ◌++◌, refl, ◌∙◌, ap, subst, inl, inr, arith}
+use Rattle.std.proofs.Common.{◌≡◌, ◌≤◌, ◌+◌, ◌-◌, ◌^◌, min, ℕ, List, [], ◌∷◌, ◌++◌, refl, ◌∙◌, ap, subst, arith}
 use Rattle.link_traits.specs.Cause.{Rose}
 use Rattle.link_traits.specs.Link.{Told, joined, stream, begun}
 use Rattle.link_traits.specs.Site.{SiteTold, next_of, connected, returned}
 use Rattle.link_traits.specs.declared.link.Link.{Ghosts as LinkGhosts}
 use Rattle.link_traits.specs.declared.folder.Shelf.{Ghosts as ShelfGhosts}
-use Rattle.dumper_cli.specs.Heard.{heard_of, IsWhole, IsRefused, IsGarbled, Outlasts}
-use Rattle.dumper_cli.specs.Outside.{heard_from, SiteTabled, SaidAtMost, a_front, EndedBy}
-use Rattle.dumper_cli.specs.OverLink.{LinkDumped, LinkStopped, StoppedOver}
+use Rattle.dumper_cli.specs.Heard.{heard_of, IsRefused, IsGarbled, Outlasts}
+use Rattle.dumper_cli.specs.Outside.{heard_from, SaidAtMost, a_front, EndedBy}
+use Rattle.dumper_cli.specs.OverLink.{LinkStopped, StoppedOver}
 use Rattle.dumper_cli.specs.Said.{said}
 use Rattle.dumper_cli.specs.Words.{Asked}
 use Rattle.dumper_cli.specs.declared.fault.DumpFault.{DumpFault}
@@ -26,23 +26,6 @@ Rose-back site link_start link_end between now before rose back = omega arith
 module _ {L S : Type 0} (link : LinkGhosts L) (shelf : ShelfGhosts S) where
   heard_same : (old : SiteTold) (a : L) → link.told a ≡ begun (next_of old.conversations) → heard_of (stream (link.told a)) ≡ heard_from old
   heard_same old a begins = ap (λ (t : Told). heard_of (stream t)) begins ∙ ap heard_of (stream_begun (next_of old.conversations))
-
-  pub SiteTabled-dumped : (asked : Asked) (tells : Type 0) (old new : SiteTold) (rose : Type 0) (a b : L) (before behind : S) → (tells → link.tells b) → (tells → link.told a ≡ begun (next_of old.conversations)) → (tells → new ≡ returned (connected old) (link.told b).sent) → (Rose (link.faults a) (link.faults b) → rose)
-      → LinkDumped link shelf asked a before b behind → SiteTabled asked tells rose old new (shelf.tells before) (shelf.told behind).made
-  SiteTabled-dumped asked tells old new rose a b before behind telling begins told rising dumped = record {
-    columns = dumped.columns;
-    rows = dumped.rows;
-    site = λ t. record {
-      sent = (link.told b).sent;
-      told = told t;
-      said_all = elim (rw (begins t) at dumped.all_said (telling t)) [
-        | inl e ↦ inl e
-        | inr e ↦ inr (e.0, rising e.1)
-      ];
-      heard = subst (IsWhole asked dumped.columns dumped.rows) (heard_same old a (begins t)) (dumped.heard (telling t));
-    };
-    files = dumped.made;
-  }
 
   pub SaidAtMost-stopped : (asked : Asked) (old new : SiteTold) (a b : L) (before behind : S) (fault : DumpFault) → link.tells b → link.told a ≡ begun (next_of old.conversations) → new ≡ returned (connected old) (link.told b).sent → LinkStopped link shelf asked a before b behind fault → SaidAtMost asked old new
   SaidAtMost-stopped asked old new a b before behind fault telling begins told stopped =

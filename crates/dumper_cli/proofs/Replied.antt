@@ -11,29 +11,29 @@ use Rattle.result_rows.specs.declared.reader.Reply.TheVariants.{Done, Refused, C
 use Rattle.result_rows.specs.declared.reader.ReplyFault.{ReplyFault}
 use Rattle.result_rows.specs.declared.refusal.Refusal.{Refusal}
 
-pub reply_done : (reply : Option Reply) (result : Result Reply ReplyFault) (new : Reading) → IsReply reply result new → result ≡ Ok Done → reply ≡ Some Done
-reply_done None result new is done = let wrong = is.0 in cc
-reply_done (Some Done) result new is done = refl
-reply_done (Some (Refused refusal)) result new is done = let wrong = is.0 in cc
-reply_done (Some (Columns count)) result new is done = let wrong = is.0 in cc
+pub reply_done : (payload : List ℕ) (reply : Option Reply) (result : Result Reply ReplyFault) (new : Reading) → IsReply payload reply result new → result ≡ Ok Done → reply ≡ Some Done
+reply_done payload None result new is done = let wrong = is.0 in cc
+reply_done payload (Some Done) result new is done = refl
+reply_done payload (Some (Refused refusal)) result new is done = let wrong = is.0 in cc
+reply_done payload (Some (Columns count)) result new is done = let wrong = is.0 in cc
 
-pub reply_refused : (reply : Option Reply) (result : Result Reply ReplyFault) (new : Reading) (refusal : Refusal) → IsReply reply result new → result ≡ Ok (Refused refusal) → reply ≡ Some (Refused refusal)
-reply_refused None result new refusal is done = let wrong = is.0 in cc
-reply_refused (Some Done) result new refusal is done = let wrong = is.0 in cc
-reply_refused (Some (Refused other)) result new refusal is done = let same = is.0 in cc
-reply_refused (Some (Columns count)) result new refusal is done = let wrong = is.0 in cc
+pub reply_refused : (payload : List ℕ) (reply : Option Reply) (result : Result Reply ReplyFault) (new : Reading) (refusal : Refusal) → IsReply payload reply result new → result ≡ Ok (Refused refusal) → reply ≡ Some (Refused refusal)
+reply_refused payload None result new refusal is done = let wrong = is.0 in cc
+reply_refused payload (Some Done) result new refusal is done = let wrong = is.0 in cc
+reply_refused payload (Some (Refused other)) result new refusal is done = let same = is.0 in cc
+reply_refused payload (Some (Columns count)) result new refusal is done = let wrong = is.0 in cc
 
-pub reply_columns : (reply : Option Reply) (result : Result Reply ReplyFault) (new : Reading) (count : ℕ) → IsReply reply result new → result ≡ Ok (Columns count) → (reply ≡ Some (Columns count)) × (new ≡ counted count)
-reply_columns None result new count is done = let wrong = is.0 in cc
-reply_columns (Some Done) result new count is done = let wrong = is.0 in cc
-reply_columns (Some (Refused refusal)) result new count is done = let wrong = is.0 in cc
-reply_columns (Some (Columns other)) result new count is done = let wrong = is.0 in let same = is.1 in (cc, cc)
+pub reply_columns : (payload : List ℕ) (reply : Option Reply) (result : Result Reply ReplyFault) (new : Reading) (count : ℕ) → IsReply payload reply result new → result ≡ Ok (Columns count) → (reply ≡ Some (Columns count)) × (new ≡ counted count)
+reply_columns payload None result new count is done = let wrong = is.0 in cc
+reply_columns payload (Some Done) result new count is done = let wrong = is.0 in cc
+reply_columns payload (Some (Refused refusal)) result new count is done = let wrong = is.0 in cc
+reply_columns payload (Some (Columns other)) result new count is done = let wrong = is.0 in let same = is.1 in (cc, cc)
 
-pub reply_none : (reply : Option Reply) (result : Result Reply ReplyFault) (new : Reading) (fault : ReplyFault) → IsReply reply result new → result ≡ Err fault → reply ≡ None
-reply_none None result new fault is done = refl
-reply_none (Some Done) result new fault is done = let wrong = is.0 in cc
-reply_none (Some (Refused refusal)) result new fault is done = let wrong = is.0 in cc
-reply_none (Some (Columns count)) result new fault is done = let wrong = is.0 in cc
+pub reply_none : (payload : List ℕ) (reply : Option Reply) (result : Result Reply ReplyFault) (new : Reading) (fault : ReplyFault) → IsReply payload reply result new → result ≡ Err fault → reply ≡ None
+reply_none payload None result new fault is done = refl
+reply_none payload (Some Done) result new fault is done = let wrong = is.0 in cc
+reply_none payload (Some (Refused refusal)) result new fault is done = let wrong = is.0 in cc
+reply_none payload (Some (Columns count)) result new fault is done = let wrong = is.0 in cc
 
 -- a result set has a column
 counted_within : (a b c : Bool) (x count : ℕ) → (if a && b && c then Some x else None) ≡ Some count → (b ≡ true) × (x ≡ count)

@@ -1,12 +1,11 @@
 -- The rows that were read and written so far.
-use Rattle.std.proofs.Common.{ℕ, List, [], ◌++◌, ◌∙◌, arith}
-use Rattle.my_packets.specs.Packet.{next_id}
+use Rattle.std.proofs.Common.{◌≡◌, ℕ, List, [], ◌++◌, refl, sym, ◌∙◌, subst, arith}
 use Rattle.link_traits.specs.declared.link.Link.{Ghosts as LinkGhosts}
 use Rattle.link_traits.specs.declared.folder.Shelf.{Ghosts as ShelfGhosts}
 use Rattle.result_rows.specs.Reading.{Reading}
 use Rattle.sql_literals.specs.Literal.{Cell}
 use Rattle.dumper_cli.specs.Next.{RowsGoOn, RowsEnd, Copied, Broke}
-use Rattle.dumper_cli.specs.Place.{rows_asked, rows_come}
+use Rattle.dumper_cli.specs.Place.{rows_asked, rows_come, id_past}
 use Rattle.dumper_cli.specs.Run.{Start, Reached}
 use Rattle.dumper_cli.specs.Words.{Asked}
 use Rattle.dumper_cli.specs.Writing.{IsWriting, KeepsFile}
@@ -23,13 +22,17 @@ module _ {L S : Type 0} (link : LinkGhosts L) (shelf : ShelfGhosts S) where
     pub reached : (asked : Asked) (start : Start) → Reached link asked (rows_asked columns) start old → Reached link asked (rows_come id reader columns rows) start now
     pub writes : (schema table : List ℕ) → IsWriting shelf schema table columns [] file → IsWriting shelf schema table columns rows now_file
 
-  pub SoFar-begun : (columns : List Column) (old : Session L) (file : DataFile S shelf) (reader : Reading) (now : Session L) → ((asked : Asked) (start : Start) → Reached link asked (rows_asked columns) start old → Reached link asked (rows_come 2 reader columns []) start now) → SoFar columns old file 2 reader now file
-  SoFar-begun columns old file reader now reached = record { rows = []; reached = reached; writes = λ schema table writing. writing }
+  pub SoFar-begun : (columns : List Column) (old : Session L) (file : DataFile S shelf) (id : ℕ) (reader : Reading) (now : Session L) → id ≡ now.frames.id → now.frames.id ≡ id_past 1 now.frames.message → ((asked : Asked) (start : Start) → Reached link asked (rows_asked columns) start old → Reached link asked (rows_come (id_past 1 now.frames.message) reader columns []) start now) → SoFar columns old file id reader now file
+  SoFar-begun columns old file id reader now id_is is reached = record {
+    rows = [];
+    reached = λ asked start at. subst (λ (n : ℕ). Reached link asked (rows_come n reader columns []) start now) (sym (id_is ∙ is)) (reached asked start at);
+    writes = λ schema table writing. writing;
+  }
 
-  pub SoFar-more : (columns : List Column) (old : Session L) (file : DataFile S shelf) (id : ℕ) (reader : Reading) (mid : Session L) (mid_file : DataFile S shelf) (later : Reading) (now : Session L) (now_file : DataFile S shelf) → SoFar columns old file id reader mid mid_file → RowsGoOn link shelf id reader columns mid mid_file later now now_file → SoFar columns old file (next_id id) later now now_file
-  SoFar-more columns old file id reader mid mid_file later now now_file so_far more = record {
+  pub SoFar-more : (columns : List Column) (old : Session L) (file : DataFile S shelf) (id : ℕ) (reader : Reading) (mid : Session L) (mid_file : DataFile S shelf) (later : Reading) (now : Session L) (now_file : DataFile S shelf) → SoFar columns old file id reader mid mid_file → (next : ℕ) → next ≡ now.frames.id → now.frames.id ≡ id_past id now.frames.message → RowsGoOn link shelf id reader columns mid mid_file later now now_file → SoFar columns old file next later now now_file
+  SoFar-more columns old file id reader mid mid_file later now now_file so_far next next_is is more = record {
     rows = so_far.rows ++ more.added;
-    reached = λ asked start at. more.reached asked so_far.rows start (so_far.reached asked start at);
+    reached = λ asked start at. subst (λ (n : ℕ). Reached link asked (rows_come n later columns (so_far.rows ++ more.added)) start now) (sym (next_is ∙ is)) (more.reached asked so_far.rows start (so_far.reached asked start at));
     writes = λ schema table writing. more.writes schema table so_far.rows (so_far.writes schema table writing);
   }
 
@@ -39,6 +42,9 @@ module _ {L S : Type 0} (link : LinkGhosts L) (shelf : ShelfGhosts S) where
     finished = λ asked start at. ends.finished asked so_far.rows start (so_far.reached asked start at);
     writes = λ schema table writing. ends.writes schema table so_far.rows (so_far.writes schema table writing);
   }
+
+  pub KeepsFile-same : (a : DataFile S shelf) → KeepsFile shelf a a
+  KeepsFile-same a = record { name = refl; head = refl; tells = (λ t. t, λ t. t); later = omega arith }
 
   pub KeepsFile-then : (a b c : DataFile S shelf) → KeepsFile shelf a b → KeepsFile shelf b c → KeepsFile shelf a c
   KeepsFile-then a b c one two = record {

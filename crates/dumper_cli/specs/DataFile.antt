@@ -3,9 +3,17 @@ use Rattle.std.specs.Prelude.{ℕ, ◌+◌, nat_le, if◌then◌else◌, List, [
 use Rattle.link_traits.specs.Contents.{File}
 use Rattle.sql_literals.specs.Literal.{Cell, literal}
 use Rattle.sql_literals.specs.Name.{quoted_name}
-use Rattle.dumper_cli.specs.Texts.{led, quoted_names}
 use Rattle.dumper_cli.specs.declared.column.Column.{Column}
 use Rattle.dumper_cli.specs.declared.data_file.TheConstants.{PREAMBLE, STATEMENT_SIZE}
+
+-- pieces one behind the other: the first behind this byte, and each later one behind a comma
+abbrev pub led : ℕ → List (List ℕ) → List ℕ
+led byte [] = []
+led byte (piece ∷ pieces) = byte ∷ piece ++ led 44 pieces
+
+-- the names of columns between backquotes
+abbrev pub quoted_names : List Column → List (List ℕ)
+quoted_names columns = map (λ column. quoted_name column.name) columns
 
 -- the literals of a row's cells
 abbrev pub literals : List Column → List Cell → List (List ℕ)

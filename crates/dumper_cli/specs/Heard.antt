@@ -1,6 +1,6 @@
 -- What the bytes that a server sends in a dump turn out to be.
-use Rattle.std.specs.Prelude.{ℕ, ◌≡◌, ◌<◌, ◌≤◌, ◌^◌, ◌⊎◌, List, ◌++◌, length, take}
-use Rattle.my_packets.specs.Packet.{packet, missing, HasWrongId, IsTooLong}
+use Rattle.std.specs.Prelude.{ℕ, ◌≡◌, ◌^◌, ◌⊎◌, List, length, take}
+use Rattle.my_packets.specs.Front.{HasMessage, HasWrongId, IsTooLong, IsPart}
 use Rattle.result_rows.specs.declared.refusal.Refusal.{Refusal}
 use Rattle.sql_literals.specs.Literal.{Cell}
 use Rattle.dumper_cli.specs.Place.{Place, Turn, greeting, more, whole, stopped, unread, id_of, turn_of}
@@ -8,15 +8,10 @@ use Rattle.dumper_cli.specs.Words.{Asked}
 use Rattle.dumper_cli.specs.declared.column.Column.{Column}
 use Rattle.dumper_cli.specs.declared.session.TheConstants.{MESSAGE_LIMIT}
 
--- the bytes begin with the packet of this message, which has one packet, and these are behind it
-pub record HasPacket (id : ℕ) (message bytes behind : List ℕ) : Type 0 where
-  pub short : length message ≤ MESSAGE_LIMIT
-  pub bytes_are : bytes ≡ packet id message ++ behind
-
 -- the whole messages at the front of the bytes heard lead a dump from its greeting to this place, and these bytes are behind them
 pub data Leads (asked : Asked) (heard : List ℕ) : Place → List ℕ → Type 0 where
   at_start : Leads asked heard greeting heard
-  further : {place next : Place} {message bytes behind : List ℕ} → Leads asked heard place bytes → HasPacket (id_of place) message bytes behind → turn_of asked place message ≡ more next → Leads asked heard next behind
+  further : {place next : Place} {message bytes behind : List ℕ} → Leads asked heard place bytes → HasMessage MESSAGE_LIMIT (id_of place) message bytes behind → turn_of asked place message ≡ more next → Leads asked heard next behind
 
 -- a message came at which the dump turns so
 pub record Comes (asked : Asked) (turn : Turn) (heard : List ℕ) : Type 0 where
@@ -25,14 +20,14 @@ pub record Comes (asked : Asked) (turn : Turn) (heard : List ℕ) : Type 0 where
   pub bytes : List ℕ
   pub behind : List ℕ
   pub leads : Leads asked heard place bytes
-  pub packet_is : HasPacket (id_of place) message bytes behind
+  pub packet_is : HasMessage MESSAGE_LIMIT (id_of place) message bytes behind
   pub turns : turn_of asked place message ≡ turn
 
--- the next packet has another sequence id than it should have, or is longer than a message of one packet
+-- a packet of the next message has another sequence id than it should have, or the message is longer than it may be
 abbrev pub IsWrong : ℕ → List ℕ → Type 0
-IsWrong id bytes = ((found : ℕ) × HasWrongId id found bytes) ⊎ ((size : ℕ) × IsTooLong MESSAGE_LIMIT id size bytes)
+IsWrong id bytes = ((found : ℕ) × (wanted : ℕ) × HasWrongId MESSAGE_LIMIT id found wanted bytes) ⊎ ((size : ℕ) × IsTooLong MESSAGE_LIMIT id size bytes)
 
--- a packet came that has another sequence id than it should have, or is longer than a message of one packet
+-- a message came of which a packet has another sequence id than it should have, or which is longer than it may be
 pub record Misframed (asked : Asked) (heard : List ℕ) : Type 0 where
   pub place : Place
   pub bytes : List ℕ
@@ -44,7 +39,8 @@ pub record Unfinished (asked : Asked) (heard : List ℕ) : Type 0 where
   pub place : Place
   pub bytes : List ℕ
   pub leads : Leads asked heard place bytes
-  pub part : 0 < missing MESSAGE_LIMIT (id_of place) bytes
+  pub more : ℕ
+  pub part : IsPart MESSAGE_LIMIT (id_of place) more bytes
 
 -- a session reads at most so many bytes
 abbrev pub heard_of : List ℕ → List ℕ

@@ -1,13 +1,12 @@
 -- One message more of the columns or of the rows.
 use Rattle.std.specs.Prelude.{◌≡◌, ◌<◌, ◌≤◌, Bool, true, false, ℕ, List, [], ◌++◌}
-use Rattle.my_packets.specs.Packet.{next_id}
 use Rattle.link_traits.specs.Cause.{Rose}
 use Rattle.link_traits.specs.declared.link.Link.{Ghosts as LinkGhosts}
 use Rattle.link_traits.specs.declared.folder.Shelf.{Ghosts as ShelfGhosts}
 use Rattle.result_rows.specs.Reading.{Reading}
 use Rattle.sql_literals.specs.Literal.{Cell}
 use Rattle.dumper_cli.specs.Heard.{IsWhole, heard_of}
-use Rattle.dumper_cli.specs.Place.{can_ask, columns_come, rows_asked, rows_come}
+use Rattle.dumper_cli.specs.Place.{can_ask, columns_come, rows_asked, rows_come, id_past}
 use Rattle.dumper_cli.specs.Run.{Start, At, Reached, SaidFront, Halted}
 use Rattle.dumper_cli.specs.Said.{first_messages, messages}
 use Rattle.dumper_cli.specs.Taking.{CannotAsk}
@@ -24,7 +23,7 @@ module _ {L : Type 0} (of : LinkGhosts L) where
   -- the columns go on
   pub record GoesOn (id : ℕ) (reading : Reading) (columns : List Column) (old : Session L) (later : Reading) (more : List Column) (new : Session L) : Type 0 where
     pub pending : 0 < later.columns
-    pub reached : (asked : Asked) (start : Start) → Reached of asked (columns_come id reading columns) start old → Reached of asked (columns_come (next_id id) later more) start new
+    pub reached : (asked : Asked) (start : Start) → Reached of asked (columns_come id reading columns) start old → Reached of asked (columns_come (id_past id new.frames.message) later more) start new
 
   -- all columns came: where the rows can be asked for, the run is where that is done, and else it ends
   pub record Ends (id : ℕ) (reading : Reading) (columns : List Column) (old : Session L) (more : List Column) (new : Session L) : Type 0 where
@@ -53,7 +52,7 @@ module _ {L S : Type 0} (link : LinkGhosts L) (shelf : ShelfGhosts S) where
   pub record RowsGoOn (id : ℕ) (reading : Reading) (columns : List Column) (old : Session L) (file : DataFile S shelf) (later : Reading) (new : Session L) (new_file : DataFile S shelf) : Type 0 where
     pub pending : 0 < later.columns
     pub added : List (List Cell)
-    pub reached : (asked : Asked) (rows : List (List Cell)) (start : Start) → Reached link asked (rows_come id reading columns rows) start old → Reached link asked (rows_come (next_id id) later columns (rows ++ added)) start new
+    pub reached : (asked : Asked) (rows : List (List Cell)) (start : Start) → Reached link asked (rows_come id reading columns rows) start old → Reached link asked (rows_come (id_past id new.frames.message) later columns (rows ++ added)) start new
     pub writes : (schema table : List ℕ) (rows : List (List Cell)) → IsWriting shelf schema table columns rows file → IsWriting shelf schema table columns (rows ++ added) new_file
 
   -- all rows came

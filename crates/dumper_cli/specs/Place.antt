@@ -1,6 +1,6 @@
 -- How a dump goes on at each message of the server.
 use Rattle.std.specs.Prelude.{ℕ, ◌==◌, nat_le, if◌then◌else◌, Bool, true, false, List, [], ◌∷◌, ◌++◌, length, Option, Some, None}
-use Rattle.my_packets.specs.Packet.{next_id}
+use Rattle.my_packets.specs.Packet.{packet_count, id_behind}
 use Rattle.result_rows.specs.Reading.{Reading, Further, definition, row, end, refused, garbled, counted, further_of, after}
 use Rattle.result_rows.specs.Reply.{refusal_of, reply_of}
 use Rattle.result_rows.specs.declared.reader.Reply.{Reply}
@@ -9,9 +9,11 @@ use Rattle.result_rows.specs.declared.refusal.Refusal.{Refusal}
 use Rattle.sql_literals.specs.Literal.{Cell}
 use Rattle.dumper_cli.specs.Columns.{column_of, is_row_of}
 use Rattle.dumper_cli.specs.Greeting.{is_greeting}
-use Rattle.dumper_cli.specs.Texts.{rows_text}
+use Rattle.dumper_cli.specs.Texts.{column_names}
 use Rattle.dumper_cli.specs.Words.{Asked}
 use Rattle.dumper_cli.specs.declared.column.Column.{Column}
+use Rattle.sql_statements.specs.Text.{query_text}
+use Rattle.sql_statements.specs.declared.query.Query.TheVariants.{Rows}
 
 -- where in a dump a message of the server is read: the greeting, the answer to the login, to the set-up statement and
 -- to SET NAMES; the first message about the columns and each further one, behind so many columns; the first message
@@ -33,7 +35,7 @@ pub data Turn : Type 0 where
   stopped : Refusal → Turn
   unread : Turn
 
--- the sequence id that the packet read at a place has to have
+-- the sequence id that the first packet of the message read at a place has to have
 abbrev pub id_of : Place → ℕ
 id_of greeting = 0
 id_of login = 2
@@ -78,7 +80,7 @@ with_column next columns None = unread
 -- the table has columns, and the query for its rows is within the limit
 abbrev pub can_ask : List ℕ → List ℕ → List Column → Bool
 can_ask schema table [] = false
-can_ask schema table (column ∷ columns) = nat_le (length (rows_text schema table (column ∷ columns))) 1000000
+can_ask schema table (column ∷ columns) = nat_le (length (query_text (Rows (column_names (column ∷ columns)) schema table))) 1000000
 
 -- a further message about the columns
 abbrev pub at_columns : Asked → (Reading → List Column → Place) → Reading → List Column → Further → Turn
@@ -96,13 +98,17 @@ at_rows next reading columns rows end = whole columns rows
 at_rows next reading columns rows (refused refusal) = stopped refusal
 at_rows next reading columns rows garbled = unread
 
+-- the id behind the packets of a message
+abbrev pub id_past : ℕ → List ℕ → ℕ
+id_past id message = id_behind (packet_count (length message)) id
+
 -- what a message does at a place
 abbrev pub turn_of : Asked → Place → List ℕ → Turn
 turn_of asked greeting payload = at_greeting payload
 turn_of asked login payload = at_command set_up (reply_of payload)
 turn_of asked set_up payload = at_command set_names (reply_of payload)
 turn_of asked set_names payload = at_command columns_asked (reply_of payload)
-turn_of asked columns_asked payload = at_query (λ reading. columns_come 2 reading []) (reply_of payload)
-turn_of asked (columns_come id reading columns) payload = at_columns asked (columns_come (next_id id)) reading columns (further_of reading payload)
-turn_of asked (rows_asked columns) payload = at_query (λ reading. rows_come 2 reading columns []) (reply_of payload)
-turn_of asked (rows_come id reading columns rows) payload = at_rows (λ later. rows_come (next_id id) later columns) reading columns rows (further_of reading payload)
+turn_of asked columns_asked payload = at_query (λ reading. columns_come (id_past 1 payload) reading []) (reply_of payload)
+turn_of asked (columns_come id reading columns) payload = at_columns asked (columns_come (id_past id payload)) reading columns (further_of reading payload)
+turn_of asked (rows_asked columns) payload = at_query (λ reading. rows_come (id_past 1 payload) reading columns []) (reply_of payload)
+turn_of asked (rows_come id reading columns rows) payload = at_rows (λ later. rows_come (id_past id payload) later columns) reading columns rows (further_of reading payload)

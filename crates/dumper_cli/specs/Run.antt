@@ -8,11 +8,13 @@ use Rattle.dumper_cli.specs.Heard.{Leads, heard_of, IsRefused, IsGarbled, Outlas
 use Rattle.dumper_cli.specs.Place.{Place, id_of, turn_of, at_command}
 use Rattle.dumper_cli.specs.Said.{said}
 use Rattle.dumper_cli.specs.Session.{unheard}
-use Rattle.dumper_cli.specs.Texts.{response, query, columns_text}
+use Rattle.dumper_cli.specs.Texts.{response, query}
 use Rattle.dumper_cli.specs.Words.{Asked}
 use Rattle.dumper_cli.specs.declared.session.Session.{Session}
 use Rattle.dumper_cli.specs.declared.session.SessionFault.{SessionFault}
 use Rattle.dumper_cli.specs.declared.session.SessionFault.TheVariants.{Link, Refused, Garbled, StreamTooLong, OutOfMemory}
+use Rattle.sql_statements.specs.Text.{query_text}
+use Rattle.sql_statements.specs.declared.query.Query.TheVariants.{Columns}
 
 -- what a link tells at a run's start: all that is to be read, what was sent, and how often it has failed
 pub record Start : Type 0 where
@@ -60,4 +62,4 @@ pub record Exchanges (asked : Asked) (place next : Place) (id : ℕ) (payload : 
 -- the answer to the greeting, and the query for the columns
 pub record Asks (asked : Asked) (answer columns : List ℕ) : Type 0 where
   pub answer_is : answer ≡ response asked.user
-  pub columns_is : columns ≡ query (columns_text asked.schema asked.table)
+  pub columns_is : columns ≡ query (query_text (Columns asked.schema asked.table))

@@ -1,10 +1,11 @@
 -- What a session hears and says.
-use Rattle.std.specs.Prelude.{◌≡◌, ◌<◌, ◌≤◌, ◌+◌, ◌-◌, ◌^◌, ◌↔◌, ◌⊎◌, ℕ, List, [], ◌∷◌, ◌++◌, length, take}
-use Rattle.my_packets.specs.Packet.{missing}
+use Rattle.std.specs.Prelude.{◌≡◌, ◌≤◌, ◌+◌, ◌-◌, ◌*◌, ◌^◌, ◌↔◌, ◌⊎◌, ℕ, List, [], ◌∷◌, ◌++◌, length, take}
+use Rattle.my_packets.specs.Front.{HasMessage, IsPart}
+use Rattle.my_packets.specs.Packet.{packet_count}
 use Rattle.link_traits.specs.Cause.{Rose}
 use Rattle.link_traits.specs.Link.{stream}
 use Rattle.link_traits.specs.declared.link.Link.{Ghosts}
-use Rattle.dumper_cli.specs.Heard.{HasPacket, IsWrong}
+use Rattle.dumper_cli.specs.Heard.{IsWrong}
 use Rattle.dumper_cli.specs.declared.session.Session.{Session}
 use Rattle.dumper_cli.specs.declared.session.TheConstants.{MESSAGE_LIMIT, QUIT}
 use Rattle.dumper_cli.specs.declared.session.SessionFault.{SessionFault}
@@ -36,16 +37,17 @@ pub record Rests {L : Type 0} (old new : Session L) : Type 0 where
 
 -- a message was read: the reader is behind it
 pub record Advances {L : Type 0} (old new : Session L) : Type 0 where
-  pub place : new.frames.place ≡ old.frames.place + 4 + length new.frames.message
+  pub place : new.frames.place ≡ old.frames.place + 4 * packet_count (length new.frames.message) + length new.frames.message
 
--- it is the first of all that was still to be read, in a packet of this sequence id
+-- it is the first of all that was still to be read, in packets from this sequence id on
 pub record Hears {L : Type 0} (of : Ghosts L) (id : ℕ) (old new : Session L) : Type 0 where
-  pub packet_is : HasPacket id new.frames.message (stream_of of old) (stream_of of new)
+  pub message_is : HasMessage MESSAGE_LIMIT id new.frames.message (stream_of of old) (stream_of of new)
 
 -- the session's limit was reached within the next message
 pub record IsFull {L : Type 0} (of : Ghosts L) (id : ℕ) (session : Session L) : Type 0 where
   pub full : session.frames.place + length (unheard of session) ≡ 2 ^ 62
-  pub part : 0 < missing MESSAGE_LIMIT id (unheard of session)
+  pub more : ℕ
+  pub part : IsPart MESSAGE_LIMIT id more (unheard of session)
 
 -- why no message with this sequence id was read
 abbrev pub Misheard : {L : Type 0} → Ghosts L → ℕ → Session L → Session L → SessionFault → Type 0

@@ -5,7 +5,7 @@ use Rattle.link_traits.specs.declared.folder.Shelf.{Ghosts}
 use Rattle.result_rows.specs.Reading.{Reading, Further, end}
 use Rattle.dumper_cli.specs.Columns.{is_row_of}
 use Rattle.dumper_cli.specs.Place.{Place, more, at_columns, at_rows, can_ask}
-use Rattle.dumper_cli.specs.Texts.{query, rows_text}
+use Rattle.dumper_cli.specs.Texts.{query, column_names}
 use Rattle.sql_literals.specs.Literal.{Cell}
 use Rattle.dumper_cli.specs.Turned.{EndsAt}
 use Rattle.dumper_cli.specs.Words.{Asked}
@@ -16,6 +16,8 @@ use Rattle.dumper_cli.specs.declared.fault.DumpFault.TheVariants.{FolderNotEmpty
 use Rattle.dumper_cli.specs.declared.column.Column.{Column}
 use Rattle.dumper_cli.specs.declared.session.SessionFault.{SessionFault}
 use Rattle.dumper_cli.specs.declared.session.SessionFault.TheVariants.{Link, Refused, Garbled, StreamTooLong, OutOfMemory}
+use Rattle.sql_statements.specs.Text.{query_text}
+use Rattle.sql_statements.specs.declared.query.Query.TheVariants.{Rows}
 
 -- a further message about the columns was read: the reader is behind it, and these are the columns so far
 pub record ReadColumn (reading : Reading) (columns : List Column) (further : Further) (later : Reading) (now : List Column) : Type 0 where
@@ -35,7 +37,7 @@ TakesColumn false reading columns further later now = ReadAll columns further no
 -- what a run has behind the answer about the columns: the query for the rows, which is within the limit
 pub record CanAsk (schema table : List ℕ) (columns : List Column) (made : List ℕ) : Type 0 where
   pub within : can_ask schema table columns ≡ true
-  pub query_is : made ≡ query (rows_text schema table columns)
+  pub query_is : made ≡ query (query_text (Rows (column_names columns) schema table))
   pub short : length made < 16777215
 
 -- why there is none

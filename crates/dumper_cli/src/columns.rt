@@ -1,7 +1,7 @@
 // The columns of the table, read from the answer to their query.
 ghost use Rattle.std.specs.Prelude.{◌≡◌, ◌<◌, [], length, IfErr, IfOk, OnOk};
 ghost use Rattle.result_rows.specs.Reading.{further_of};
-ghost use Rattle.dumper_cli.specs.Place.{at_columns, columns_asked, columns_come, rows_asked};
+ghost use Rattle.dumper_cli.specs.Place.{at_columns, columns_asked, columns_come, rows_asked, id_past};
 ghost use Rattle.dumper_cli.specs.Next.{NextColumn};
 ghost use Rattle.dumper_cli.specs.Run.{At, Reached, Halted};
 ghost use Rattle.dumper_cli.specs.Said.{first_messages};
@@ -79,8 +79,9 @@ impl<L: Link> Session<L> {
     // Reads the first message of the answer about the columns.
     fn count_columns(&mut self, reader: &mut RowReader) -> Result<(), SessionFault>
         ensures keeps { Keeps L.Link self.old self.new }
+        ensures next { OnOk result (self.new.frames.id ≡ id_past 1 self.new.frames.message) }
         ensures pending { OnOk result (0 < reader.new.columns) }
-        ensures ok { OnOk result ((asked start : _) → Reached L.Link asked columns_asked start self.old → Reached L.Link asked (columns_come 2 reader.new []) start self.new) }
+        ensures ok { OnOk result ((asked start : _) → Reached L.Link asked columns_asked start self.old → Reached L.Link asked (columns_come (id_past 1 self.new.frames.message) reader.new []) start self.new) }
         ensures err { IfErr result (λ fault. (asked start : _) → Reached L.Link asked columns_asked start self.old → Halted L.Link asked start self.new fault) }
     {
         if let Err(fault) = self.hear(1) {
@@ -100,6 +101,7 @@ impl<L: Link> Session<L> {
         requires pending { 0 < reader.old.columns }
 
         ensures keeps { Keeps L.Link self.old self.new }
+        ensures next { IfOk result (λ _. self.new.frames.id ≡ id_past id self.new.frames.message) }
         ensures place { IfOk result (λ _. self.old.frames.place < self.new.frames.place) }
         ensures ok { IfOk result (λ goes_on. NextColumn L.Link goes_on id reader.old columns.old self.old reader.new columns.new self.new) }
         ensures err { IfErr result (λ fault. (asked start : _) → Reached L.Link asked (columns_come id reader.old columns.old) start self.old → Halted L.Link asked start self.new fault) }
@@ -127,14 +129,14 @@ impl<L: Link> Session<L> {
             return Err(fault);
         }
         let mut columns = ColumnList::new(alloc);
-        let mut id = 2u8;
+        let mut id = self.next_id();
         'columns: loop {
             let goes_on = match self.next_column(alloc, id, &mut reader, &mut columns) {
                 Ok(goes_on) => goes_on,
                 Err(fault) => return Err(fault),
             };
             if goes_on {
-                id = id.wrapping_add(1);
+                id = self.next_id();
             } else {
                 return asking(alloc, schema, table, columns);
             }

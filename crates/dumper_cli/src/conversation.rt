@@ -33,7 +33,7 @@ impl<L: Link> Session<L> {
         ensures ok { IfOk result (λ columns. (asked start : _) → Asks asked answer.now query.now → IsAbout asked schema.now table.now → Reached L.Link asked greeting start self.old → Reached L.Link asked (rows_asked columns.list) start self.new) }
         ensures err { IfErr result (λ fault. (asked start : _) → Asks asked answer.now query.now → IsAbout asked schema.now table.now → Reached L.Link asked greeting start self.old → Halted L.Link asked start self.new fault) }
     {
-        if let Err(fault) = self.log_in(answer, query) {
+        if let Err(fault) = self.log_in(alloc, answer, query) {
             return Err(fault);
         }
         let columns = match self.read_columns(alloc, schema, table) {

@@ -4,7 +4,7 @@ ghost use Rattle.result_rows.specs.Reading.{further_of};
 ghost use Rattle.result_rows.specs.RowCells.{row_cells};
 ghost use Rattle.dumper_cli.specs.Columns.{is_row_of};
 ghost use Rattle.dumper_cli.specs.Next.{NextRow, Broke, Copied};
-ghost use Rattle.dumper_cli.specs.Place.{rows_asked, rows_come};
+ghost use Rattle.dumper_cli.specs.Place.{rows_asked, rows_come, id_past};
 ghost use Rattle.dumper_cli.specs.Run.{Reached, Halted};
 ghost use Rattle.dumper_cli.specs.Session.{Keeps};
 ghost use Rattle.dumper_cli.specs.Taking.{Adds, Unwritten, TakesRow, Untaken};
@@ -67,8 +67,9 @@ impl<L: Link> Session<L> {
     // Reads the first message of the answer about the rows.
     fn begin_rows(&mut self, reader: &mut RowReader, columns: &[Column]) -> Result<(), SessionFault>
         ensures keeps { Keeps L.Link self.old self.new }
+        ensures next { OnOk result (self.new.frames.id ≡ id_past 1 self.new.frames.message) }
         ensures pending { OnOk result (0 < reader.new.columns) }
-        ensures ok { OnOk result ((asked start : _) → Reached L.Link asked (rows_asked columns.now) start self.old → Reached L.Link asked (rows_come 2 reader.new columns.now []) start self.new) }
+        ensures ok { OnOk result ((asked start : _) → Reached L.Link asked (rows_asked columns.now) start self.old → Reached L.Link asked (rows_come (id_past 1 self.new.frames.message) reader.new columns.now []) start self.new) }
         ensures err { IfErr result (λ fault. (asked start : _) → Reached L.Link asked (rows_asked columns.now) start self.old → Halted L.Link asked start self.new fault) }
     {
         if let Err(fault) = self.hear(1) {
@@ -89,6 +90,7 @@ impl<L: Link> Session<L> {
 
         ensures keeps { Keeps L.Link self.old self.new }
         ensures keeps_file { KeepsFile S.Shelf file.old file.new }
+        ensures next { IfOk result (λ _. self.new.frames.id ≡ id_past id self.new.frames.message) }
         ensures place { IfOk result (λ _. self.old.frames.place < self.new.frames.place) }
         ensures ok { IfOk result (λ goes_on. NextRow L.Link S.Shelf goes_on id reader.old columns.now self.old file.old reader.new self.new file.new) }
         ensures err { IfErr result (λ fault. (asked rows start : _) → Reached L.Link asked (rows_come id reader.old columns.now rows) start self.old → Broke L.Link S.Shelf asked start file.old self.new file.new fault) }
@@ -114,14 +116,14 @@ impl<L: Link> Session<L> {
         if let Err(fault) = self.begin_rows(&mut reader, columns) {
             return Err(DumpFault::Session(fault));
         }
-        let mut id = 2u8;
+        let mut id = self.next_id();
         'rows: loop {
             let goes_on = match self.next_row(id, &mut reader, columns, file) {
                 Ok(goes_on) => goes_on,
                 Err(fault) => return Err(fault),
             };
             if goes_on {
-                id = id.wrapping_add(1);
+                id = self.next_id();
             } else {
                 return Ok(());
             }

@@ -4,8 +4,7 @@ ghost use Rattle.result_rows.specs.RowCells.{row_cells};
 ghost use Rattle.sql_literals.specs.Literal.{literal, has_literal};
 ghost use Rattle.sql_literals.specs.Name.{quoted_name};
 ghost use Rattle.dumper_cli.specs.Columns.{is_row_of};
-ghost use Rattle.dumper_cli.specs.DataFile.{literals, row_text, with_row};
-ghost use Rattle.dumper_cli.specs.Texts.{led, quoted_names};
+ghost use Rattle.dumper_cli.specs.DataFile.{led, quoted_names, literals, row_text, with_row};
 
 use crate::column::Column;
 use crate::data_file::STATEMENT_SIZE;

@@ -7,8 +7,8 @@ use result_rows::Refusal;
 /// The most bytes that are read on one session.
 pub const SESSION_LIMIT: u64 = 4611686018427387904;
 
-/// The most bytes of a message, which has one packet.
-pub const MESSAGE_LIMIT: u32 = 16777214;
+/// The most bytes of a message, in all of its packets.
+pub const MESSAGE_LIMIT: u32 = 67108864;
 
 /// So many bytes are asked of the link at once.
 pub const PIECE: usize = 1024;
@@ -41,5 +41,5 @@ pub struct Session<L> {
     pub taken: u64,
     ghost within: { taken ≤ 4611686018427387904 },
     ghost counted: { taken ≡ frames.place + length frames.bytes },
-    ghost limited: { frames.limit ≡ 16777214 },
+    ghost limited: { frames.limit ≡ 67108864 },
 }

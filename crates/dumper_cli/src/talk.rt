@@ -1,8 +1,10 @@
 // What a session hears and says.
-ghost use Rattle.std.specs.Prelude.{◌≡◌, ◌<◌, ◌≤◌, ◌+◌, ◌-◌, [], length, false, true, IfErr, IfOk, OnOk, MatchBool};
-ghost use Rattle.my_packets.specs.Packet.{packet, missing};
+ghost use Rattle.std.specs.Prelude.{ℕ, ◌≡◌, ◌<◌, ◌≤◌, ◌+◌, ◌-◌, [], length, false, true, IfErr, IfOk, OnOk, MatchBool};
+ghost use Rattle.my_packets.specs.Front.{IsPart};
+ghost use Rattle.my_packets.specs.Packet.{packet};
 ghost use Rattle.my_packets.specs.Steps.{Passes, Waits};
 ghost use Rattle.dumper_cli.specs.Heard.{IsWrong};
+ghost use Rattle.dumper_cli.specs.Place.{id_past};
 ghost use Rattle.dumper_cli.specs.Session.{stream_of, Keeps, Listens, Rests, Advances, Hears, Misheard, Says, Unsays, Quits};
 ghost use Rattle.dumper_cli.specs.declared.session.TheConstants.{MESSAGE_LIMIT, PIECE, SESSION_LIMIT};
 
@@ -22,6 +24,21 @@ fn room(wants: u32, taken: u64) -> usize
 {
     let left = (SESSION_LIMIT - taken).min(PIECE as u64) as usize;
     left.min(wants as usize)
+}
+
+// Writes a message of one packet with this sequence id, in place of what was there.
+#[tactic(auto, using(my_packets::proofs::Packets::short_packets))]
+fn packet_into(payload: &[u8], id: u8, out: &mut Vec<u8>) -> Result<(), SessionFault>
+    requires one_packet { length payload.now < 16777215 }
+
+    ensures ok { OnOk result (out.new.items ≡ packet id payload.now) }
+    ensures err { IfErr result (λ fault. fault ≡ SessionFault.OutOfMemory) }
+{
+    out.clear();
+    match frame_into(payload, id, out) {
+        Ok(_) => Ok(()),
+        Err(_) => Err(SessionFault::OutOfMemory),
+    }
 }
 
 impl<L: Link> Session<L> {
@@ -52,9 +69,9 @@ impl<L: Link> Session<L> {
         link
     }
 
-    // Takes some bytes off the link, no more than are missing of the message that is being read.
+    // Takes some bytes off the link, no more than are missing of the packet that is being read.
     fn fetch(&mut self) -> Result<(), SessionFault>
-        requires part { 0 < missing MESSAGE_LIMIT self.old.frames.id self.old.frames.bytes }
+        requires part { (more : ℕ) × IsPart MESSAGE_LIMIT self.old.frames.id more self.old.frames.bytes }
 
         ensures listens { Listens L.Link self.old self.new }
         ensures rests { Rests self.old self.new }
@@ -92,11 +109,13 @@ impl<L: Link> Session<L> {
         }
     }
 
-    /// Reads the next message, whose packet has to have this sequence id; `message` lends it. It
-    /// returns on every link: 2^62 bytes at most are received on a session, at least one in each turn.
+    /// Reads the next message, whose first packet has to have this sequence id; `message` lends it, and
+    /// `next_id` is the id behind its packets. It returns on every link: 2^62 bytes at most are received
+    /// on a session, at least one in each turn.
     pub fn hear(&mut self, id: u8) -> Result<(), SessionFault>
         ensures listens { Listens L.Link self.old self.new }
         ensures advances { OnOk result (Advances self.old self.new) }
+        ensures next { OnOk result (self.new.frames.id ≡ id_past id self.new.frames.message) }
         ensures ok { OnOk result (L.tells self.old.link → Hears L.Link id self.old self.new) }
         ensures err { IfErr result (λ fault. Misheard L.Link id self.old self.new fault) }
     {
@@ -122,6 +141,13 @@ impl<L: Link> Session<L> {
         self.frames.message()
     }
 
+    /// The sequence id of the packet behind the message read last. Takes no memory.
+    pub fn next_id(&self) -> u8
+        ensures { result ≡ self.now.frames.id }
+    {
+        self.frames.message().next_seq
+    }
+
     /// Sends a message of one packet with this sequence id.
     pub fn say(&mut self, id: u8, payload: &[u8]) -> Result<(), SessionFault>
         requires one_packet { length payload.now < 16777215 }
@@ -130,9 +156,8 @@ impl<L: Link> Session<L> {
         ensures ok { OnOk result (Says L.Link (packet id payload.now) self.old self.new) }
         ensures err { IfErr result (λ fault. Unsays L.Link self.old self.new fault) }
     {
-        self.out.clear();
-        if frame_into(payload, id, &mut self.out).is_err() {
-            return Err(SessionFault::OutOfMemory);
+        if let Err(fault) = packet_into(payload, id, &mut self.out) {
+            return Err(fault);
         }
         match self.link.send(self.out.as_slice()) {
             Ok(()) => Ok(()),

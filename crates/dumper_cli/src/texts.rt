@@ -1,35 +1,16 @@
 // The messages that are sent.
 ghost use Rattle.std.specs.Prelude.{◌≡◌, ◌<◌, ◌≤◌, ◌++◌, length, true, false, IfOk, OnOk, IsErrOf};
-ghost use Rattle.sql_literals.specs.Literal.{quoted};
-ghost use Rattle.dumper_cli.specs.Texts.{response, query, columns_text, rows_text};
+ghost use Rattle.dumper_cli.specs.Texts.{response, query, column_names};
 ghost use Rattle.dumper_cli.specs.Place.{can_ask};
+ghost use Rattle.sql_statements.specs.Statement.{CommandHasText, QueryHasText};
+ghost use Rattle.sql_statements.specs.Text.{command_text, query_text};
 
 use crate::column::Column;
-use crate::row_text::{bytes_into, names_into};
-use sql_literals::{Buffer, CellKind, OutOfMemory, cell_into, name_into};
+use crate::row_text::bytes_into;
+use sql_literals::{Buffer, OutOfMemory};
+use sql_statements::{Command, Part, PartList, Query, command_into, query_into};
 use std::alloc::Global;
 use thiserror::Error;
-
-/// The payload of the statement that sets a session up.
-pub const SET_UP: &[u8] =
-    b"\x03SET SESSION autocommit=1,sql_mode='NO_AUTO_VALUE_ON_ZERO',time_zone='+00:00',wait_timeout=2147483,sql_quote_show_create=1,foreign_key_checks=0";
-
-/// The payload of the statement after which texts come as they are stored.
-pub const SET_NAMES: &[u8] = b"\x03SET NAMES binary";
-
-/// The query for the columns of a table: behind this comes the schema, then [`AND_TABLE`], the
-/// table, and [`IN_ORDER`].
-pub const SELECT_COLUMNS: &[u8] =
-    b"SELECT COLUMN_NAME,DATA_TYPE,COLUMN_TYPE,EXTRA FROM information_schema.COLUMNS WHERE TABLE_SCHEMA=";
-
-pub const AND_TABLE: &[u8] = b" AND TABLE_NAME=";
-
-pub const IN_ORDER: &[u8] = b" ORDER BY ORDINAL_POSITION";
-
-/// The query for the rows of a table: behind this come the columns, then [`FROM`] and the table.
-pub const SELECT: &[u8] = b"SELECT";
-
-pub const FROM: &[u8] = b" FROM ";
 
 /// A query for rows has at most so many bytes.
 pub const QUERY_SIZE: usize = 1000000;
@@ -43,13 +24,6 @@ pub enum QueryFault {
     /// Memory ran out.
     #[error("out of memory")]
     OutOfMemory,
-}
-
-// Appends a text's literal.
-fn text_into(text: &[u8], out: &mut Buffer) -> Result<(), OutOfMemory>
-    ensures { OnOk result (out.new.bytes ≡ out.old.bytes ++ quoted text.now) }
-{
-    cell_into(CellKind::Text, Some(text), out).map_err(|_| OutOfMemory)
 }
 
 /// The payload that answers a greeting: it logs this account in without a password. It is refused
@@ -67,20 +41,49 @@ pub fn response_text(alloc: Global, user: &[u8]) -> Result<Buffer, OutOfMemory>
     Ok(out)
 }
 
-/// The payload of the query for the columns of a table. It is refused only for want of memory.
-#[tactic(auto, using(crate::proofs::Lengths::columns_length))]
-pub fn columns_query(alloc: Global, schema: &[u8], table: &[u8]) -> Result<Buffer, OutOfMemory>
-    ensures bytes { IfOk result (λ made. made.bytes ≡ query (columns_text schema.now table.now)) }
-    ensures short { length schema.now ≤ 100 → length table.now ≤ 100 → IfOk result (λ made. length made.bytes < 16777215) }
+/// The payload of a command: COM_QUERY and its text. It is refused only for want of memory.
+/// (MySQL source documentation, `COM_QUERY`.)
+pub fn command_payload(alloc: Global, command: &Command<'_>) -> Result<Buffer, OutOfMemory>
+    requires { CommandHasText command.now }
+    ensures { IfOk result (λ made. made.bytes ≡ query (command_text command.now)) }
 {
     let mut out = Buffer::new(alloc);
     bytes_into(b"\x03", &mut out)?;
-    bytes_into(SELECT_COLUMNS, &mut out)?;
-    text_into(schema, &mut out)?;
-    bytes_into(AND_TABLE, &mut out)?;
-    text_into(table, &mut out)?;
-    bytes_into(IN_ORDER, &mut out)?;
+    command_into(command, &mut out)?;
     Ok(out)
+}
+
+// The payload of a query.
+fn query_payload(alloc: Global, asked: &Query<'_>) -> Result<Buffer, OutOfMemory>
+    requires { QueryHasText asked.now }
+    ensures { IfOk result (λ made. made.bytes ≡ query (query_text asked.now)) }
+{
+    let mut out = Buffer::new(alloc);
+    bytes_into(b"\x03", &mut out)?;
+    query_into(asked, &mut out)?;
+    Ok(out)
+}
+
+/// The payload of the query for the columns of a table. It is refused only for want of memory.
+#[tactic(auto, using(crate::proofs::Lengths::columns_length))]
+pub fn columns_query(alloc: Global, schema: &[u8], table: &[u8]) -> Result<Buffer, OutOfMemory>
+    ensures bytes { IfOk result (λ made. made.bytes ≡ query (query_text (Query.Columns schema.now table.now))) }
+    ensures short { length schema.now ≤ 100 → length table.now ≤ 100 → IfOk result (λ made. length made.bytes < 16777215) }
+{
+    let schema = Part::of(schema);
+    let table = Part::of(table);
+    query_payload(alloc, &Query::Columns { schema, table })
+}
+
+// The names of the columns.
+fn names_of<'a>(alloc: Global, columns: &'a [Column]) -> Result<PartList<'a>, OutOfMemory>
+    ensures { IfOk result (λ made. made ≡ column_names columns.now) }
+{
+    let mut names = PartList::new(alloc);
+    for column in columns {
+        names.push(Part::of(column.name.as_slice()))?;
+    }
+    Ok(names)
 }
 
 // The payload of the query for the rows, whatever its size.
@@ -90,17 +93,20 @@ fn any_rows_query(
     table: &[u8],
     columns: &[Column],
 ) -> Result<Buffer, OutOfMemory>
-    ensures { IfOk result (λ made. made.bytes ≡ query (rows_text schema.now table.now columns.now)) }
+    requires { 0 < length columns.now }
+    ensures { IfOk result (λ made. made.bytes ≡ query (query_text (Query.Rows (column_names columns.now) schema.now table.now))) }
 {
-    let mut out = Buffer::new(alloc);
-    bytes_into(b"\x03", &mut out)?;
-    bytes_into(SELECT, &mut out)?;
-    names_into(b' ', columns, &mut out)?;
-    bytes_into(FROM, &mut out)?;
-    name_into(schema, &mut out)?;
-    bytes_into(b".", &mut out)?;
-    name_into(table, &mut out)?;
-    Ok(out)
+    let columns = names_of(alloc, columns)?;
+    let schema = Part::of(schema);
+    let table = Part::of(table);
+    query_payload(
+        alloc,
+        &Query::Rows {
+            columns,
+            schema,
+            table,
+        },
+    )
 }
 
 /// The payload of the query for the rows of a table with these columns. `Unasked` exactly where the
@@ -111,7 +117,7 @@ pub fn rows_query(
     table: &[u8],
     columns: &[Column],
 ) -> Result<Buffer, QueryFault>
-    ensures bytes { IfOk result (λ made. made.bytes ≡ query (rows_text schema.now table.now columns.now)) }
+    ensures bytes { IfOk result (λ made. made.bytes ≡ query (query_text (Query.Rows (column_names columns.now) schema.now table.now))) }
     ensures asked { OnOk result (can_ask schema.now table.now columns.now ≡ true) }
     ensures short { IfOk result (λ made. length made.bytes < 16777215) }
     ensures unasked { IsErrOf result QueryFault.Unasked → can_ask schema.now table.now columns.now ≡ false }
@@ -131,7 +137,7 @@ pub fn rows_query(
 #[cfg(test)]
 mod tests {
     use super::*;
-    use sql_literals::Name;
+    use sql_literals::{CellKind, Name};
     use std::test::Fail;
 
     #[test]

@@ -1,5 +1,5 @@
 -- What a skim was fed, a piece at a time.
-use Rattle.std.proofs.Common.{◌≡◌, ◌≢◌, ◌<◌, ◌≤◌, ℕ, zero, suc, ◌+◌, ◌-◌, ◌*◌, ◌/◌, ◌%◌, List, [], ◌∷◌, ◌++◌, length, take, drop, refl, sym, ap, ◌∙◌, arith, subst, append_assoc, length-append, min, inl, inr, Option, Some, None, Result, Ok, Err}
+use Rattle.std.proofs.Common.{◌≡◌, ◌≢◌, ◌<◌, ◌≤◌, ℕ, zero, suc, ◌+◌, ◌-◌, ◌*◌, ◌/◌, ◌%◌, List, [], ◌∷◌, ◌++◌, length, take, refl, sym, ap, ◌∙◌, arith, subst, append_assoc, length-append, min, inl, Some, None, Ok, Err}
 use Rattle.std.proofs.lemmas.Bool.Decides.{nat_tests}
 use Rattle.std.proofs.Math.Seq.{take-append-add}
 use Rattle.std.proofs.lemmas.List.{append-nil, nil_from_length, length-take-le, take_min, take_all}
@@ -190,19 +190,19 @@ module _ (old : Skimmed) (piece header : List ℕ) (stage : old.stage ≡ Header
   feeds_less less =
       feeds_right old (record old { header = header }) piece before before
       (λ seq limit fed skims.
-        let at = in_header seq limit fed skims in
-        record {
-          limit_is = skims.limit_is;
-          at = subst (λ (s : Stage). IsAt seq limit (fed ++ piece) (record old { header = header }) s) (sym stage) record {
-            count = at.count;
-            payload = at.payload;
-            full = full_then seq limit fed at;
-            less = less;
-            kept = at.kept;
-            total = at.total;
-            id = at.id;
-          };
-        })
+      let at = in_header seq limit fed skims in
+      record {
+        limit_is = skims.limit_is;
+        at = subst (λ (s : Stage). IsAt seq limit (fed ++ piece) (record old { header = header }) s) (sym stage) record {
+          count = at.count;
+          payload = at.payload;
+          full = full_then seq limit fed at;
+          less = less;
+          kept = at.kept;
+          total = at.total;
+          id = at.id;
+        };
+      })
 
   module _ (size id : ℕ) (small : size < 16777216) (whole : header ≡ packet_header size id) where
     full_header : (seq limit : ℕ) (fed : List ℕ) → (at : IsInHeader seq limit fed old) → HasFull limit seq at.count at.payload (fed ++ piece) (packet_header size id)
@@ -212,95 +212,95 @@ module _ (old : Skimmed) (piece header : List ℕ) (stage : old.stage ≡ Header
     feeds_other other =
         feeds_wrong old (record old { stage = Wrong (BadSequence id old.id); header = header }) piece (BadSequence id old.id) before refl
         (λ seq limit fed skims.
-          let at = in_header seq limit fed skims in
-          record {
-            limit_is = skims.limit_is;
-            at = record {
-              why = record {
-                count = at.count;
-                size = size;
-                payload = at.payload;
-                behind = packet_header size id;
-                full = full_header seq limit fed at;
-                header = has_header size id small;
-                wanted_is = at.id;
-                other = other;
-              };
+        let at = in_header seq limit fed skims in
+        record {
+          limit_is = skims.limit_is;
+          at = record {
+            why = record {
               count = at.count;
+              size = size;
               payload = at.payload;
-              header = packet_header size id;
+              behind = packet_header size id;
               full = full_header seq limit fed at;
-              ends = refl;
+              header = has_header size id small;
+              wanted_is = at.id;
+              other = other;
             };
-          })
+            count = at.count;
+            payload = at.payload;
+            header = packet_header size id;
+            full = full_header seq limit fed at;
+            ends = refl;
+          };
+        })
 
     pub feeds_past : (over : ℕ) → id ≡ old.id → over ≡ old.total + size → old.limit < over → Feeds old piece (Err (TooLong over)) (record old { stage = Wrong (TooLong over); header = header })
     feeds_past over same over_is past =
         feeds_wrong old (record old { stage = Wrong (TooLong over); header = header }) piece (TooLong over) before refl
         (λ seq limit fed skims.
-          let at = in_header seq limit fed skims in
-          let limit_is = skims.limit_is in
-          let total_is = at.total in
-          record {
-            limit_is = skims.limit_is;
-            at = record {
-              why = record {
-                count = at.count;
-                last = size;
-                payload = at.payload;
-                behind = packet_header size id;
-                full = full_header seq limit fed at;
-                header = subst (λ (n : ℕ). HasHeader size n (packet_header size id)) (same ∙ at.id) (has_header size id small);
-                size_is = omega arith;
-                more = omega arith;
-              };
+        let at = in_header seq limit fed skims in
+        let limit_is = skims.limit_is in
+        let total_is = at.total in
+        record {
+          limit_is = skims.limit_is;
+          at = record {
+            why = record {
               count = at.count;
+              last = size;
               payload = at.payload;
-              header = packet_header size id;
+              behind = packet_header size id;
               full = full_header seq limit fed at;
-              ends = refl;
+              header = subst (λ (n : ℕ). HasHeader size n (packet_header size id)) (same ∙ at.id) (has_header size id small);
+              size_is = omega arith;
+              more = omega arith;
             };
-          })
+            count = at.count;
+            payload = at.payload;
+            header = packet_header size id;
+            full = full_header seq limit fed at;
+            ends = refl;
+          };
+        })
 
     pub feeds_empty : id ≡ old.id → size ≡ 0 → Feeds old piece (Ok tt) (record old { stage = Whole; header = header })
     feeds_empty same none =
         feeds_right old (record old { stage = Whole; header = header }) piece before refl
         (λ seq limit fed skims.
-          let at = in_header seq limit fed skims in
-          let short = at.full.short in
-          record {
-            limit_is = skims.limit_is;
-            at = record {
-              message = at.payload ++ [];
-              whole = add_last limit seq at.count at.payload (fed ++ piece) (packet_header size id) [] [] (full_header seq limit fed at)
-                  (ap (λ (n : ℕ). packet_header n id) none ∙ ap (λ (n : ℕ). packet_header 0 n) (same ∙ at.id)) (omega arith) (omega arith);
-              kept = at.kept ∙ ap (λ (l : List ℕ). take 1024 l) (sym (append-nil at.payload));
-            };
-          })
+        let at = in_header seq limit fed skims in
+        let short = at.full.short in
+        record {
+          limit_is = skims.limit_is;
+          at = record {
+            message = at.payload ++ [];
+            whole = add_last limit seq at.count at.payload (fed ++ piece) (packet_header size id) [] [] (full_header seq limit fed at)
+                (ap (λ (n : ℕ). packet_header n id) none ∙ ap (λ (n : ℕ). packet_header 0 n) (same ∙ at.id)) (omega arith) (omega arith);
+            kept = at.kept ∙ ap (λ (l : List ℕ). take 1024 l) (sym (append-nil at.payload));
+          };
+        })
 
     pub feeds_packet : id ≡ old.id → old.total + size ≤ old.limit → 0 < size → Feeds old piece (Ok tt) (record old { stage = Packet size size; header = header; total = old.total + size })
     feeds_packet same fits some =
         feeds_right old (record old { stage = Packet size size; header = header; total = old.total + size }) piece before refl
         (λ seq limit fed skims.
-          let at = in_header seq limit fed skims in
-          let limit_is = skims.limit_is in
-          let total_is = at.total in
-          record {
-            limit_is = skims.limit_is;
-            at = record {
-              count = at.count;
-              payload = at.payload;
-              part = [];
-              full = subst (λ (n : ℕ). HasFull limit seq at.count at.payload (fed ++ piece) (packet_header size n)) same (full_header seq limit fed at);
-              small = omega arith;
-              fits = omega arith;
-              there = omega arith;
-              some = some;
-              kept = at.kept ∙ ap (λ (l : List ℕ). take 1024 l) (sym (append-nil at.payload));
-              total = omega arith;
-              id = at.id;
-            };
-          })
+        let at = in_header seq limit fed skims in
+        let limit_is = skims.limit_is in
+        let total_is = at.total in
+        record {
+          limit_is = skims.limit_is;
+          at = record {
+            count = at.count;
+            payload = at.payload;
+            part = [];
+            full = subst (λ (n : ℕ). HasFull limit seq at.count at.payload (fed ++ piece) (packet_header size n)) same (full_header seq limit fed at);
+            small = omega arith;
+            fits = omega arith;
+            there = omega arith;
+            some = some;
+            kept = at.kept ∙ ap (λ (l : List ℕ). take 1024 l) (sym (append-nil at.payload));
+            total = omega arith;
+            id = at.id;
+          };
+        })
 
 -- bytes of a packet
 module _ (old : Skimmed) (piece kept : List ℕ) (size left : ℕ) (stage : old.stage ≡ Packet size left) (kept_is : kept ≡ take 1024 (old.kept ++ piece)) where
@@ -332,67 +332,67 @@ module _ (old : Skimmed) (piece kept : List ℕ) (size left : ℕ) (stage : old.
   feeds_part missing missing_is some =
       feeds_right old (record old { kept = kept; stage = Packet size missing }) piece none_before refl
       (λ seq limit fed skims.
-        let at = in_packet seq limit fed skims in
-        let there = at.there in
-        let all = length-append at.part piece in
-        record {
-          limit_is = skims.limit_is;
-          at = record {
-            count = at.count;
-            payload = at.payload;
-            part = at.part ++ piece;
-            full = full_part seq limit fed at;
-            small = at.small;
-            fits = at.fits;
-            there = omega arith;
-            some = some;
-            kept = kept_then seq limit fed at;
-            total = at.total;
-            id = at.id;
-          };
-        })
+      let at = in_packet seq limit fed skims in
+      let there = at.there in
+      let all = length-append at.part piece in
+      record {
+        limit_is = skims.limit_is;
+        at = record {
+          count = at.count;
+          payload = at.payload;
+          part = at.part ++ piece;
+          full = full_part seq limit fed at;
+          small = at.small;
+          fits = at.fits;
+          there = omega arith;
+          some = some;
+          kept = kept_then seq limit fed at;
+          total = at.total;
+          id = at.id;
+        };
+      })
 
   pub feeds_last : left ≡ length piece → size < 16777215 → Feeds old piece (Ok tt) (record old { kept = kept; stage = Whole })
   feeds_last last short =
       feeds_right old (record old { kept = kept; stage = Whole }) piece none_before refl
       (λ seq limit fed skims.
-        let at = in_packet seq limit fed skims in
-        let there = at.there in
-        let fits = at.fits in
-        let all = length-append at.part piece in
-        record {
-          limit_is = skims.limit_is;
-          at = record {
-            message = at.payload ++ (at.part ++ piece);
-            whole = add_last limit seq at.count at.payload (fed ++ piece) (packet_header size old.id ++ (at.part ++ piece)) (at.part ++ piece) [] (full_part seq limit fed at) (whole_part seq limit fed at last) (omega arith) (omega arith);
-            kept = kept_then seq limit fed at;
-          };
-        })
+      let at = in_packet seq limit fed skims in
+      let there = at.there in
+      let fits = at.fits in
+      let all = length-append at.part piece in
+      record {
+        limit_is = skims.limit_is;
+        at = record {
+          message = at.payload ++ (at.part ++ piece);
+          whole = add_last limit seq at.count at.payload (fed ++ piece) (packet_header size old.id ++ (at.part ++ piece)) (at.part ++ piece) [] (full_part seq limit fed at) (whole_part seq limit fed at last) (omega arith) (omega arith);
+          kept = kept_then seq limit fed at;
+        };
+      })
 
   pub feeds_full : left ≡ length piece → 16777215 ≤ size → Feeds old piece (Ok tt) (record old { kept = kept; stage = Header; header = []; id = next_id old.id })
   feeds_full last long =
       feeds_right old (record old { kept = kept; stage = Header; header = []; id = next_id old.id }) piece none_before refl
       (λ seq limit fed skims.
-        let at = in_packet seq limit fed skims in
-        let there = at.there in
-        let fits = at.fits in
-        let small = at.small in
-        let total_is = at.total in
-        let id_is = at.id in
-        let all = length-append at.part piece in
-        let both = length-append at.payload (at.part ++ piece) in
-        record {
-          limit_is = skims.limit_is;
-          at = record {
-            count = suc at.count;
-            payload = at.payload ++ (at.part ++ piece);
-            full = add_full limit seq at.count at.payload (fed ++ piece) (packet_header size old.id ++ (at.part ++ piece)) (at.part ++ piece) [] (full_part seq limit fed at) (whole_part seq limit fed at last) (omega arith) (omega arith);
-            less = omega arith;
-            kept = kept_then seq limit fed at;
-            total = omega arith;
-            id = omega arith;
-          };
-        })
+      let at = in_packet seq limit fed skims in
+      let there = at.there in
+      let fits = at.fits in
+      let small = at.small in
+      let total_is = at.total in
+      let id_is = at.id in
+      let all = length-append at.part piece in
+      let both = length-append at.payload (at.part ++ piece) in
+      record {
+        limit_is = skims.limit_is;
+        at = record {
+          count = suc at.count;
+          payload = at.payload ++ (at.part ++ piece);
+          full = add_full limit seq at.count at.payload (fed ++ piece) (packet_header size old.id ++ (at.part ++ piece)) (at.part ++ piece) [] (full_part seq limit fed at) (whole_part seq limit fed at last) (omega arith) (omega arith);
+          less = omega arith;
+          kept = kept_then seq limit fed at;
+          total = omega arith;
+          id = omega arith;
+        };
+      })
 
 -- what a skim wants
 wants_at : (seq limit : ℕ) (fed : List ℕ) (skim : Skimmed) (stage : Stage) → IsAt seq limit fed skim stage → Wants limit seq fed (wanted_at stage skim.header)

@@ -1,5 +1,5 @@
 -- What the bytes are that a skim was fed.
-use Rattle.std.specs.Prelude.{ℕ, ◌≡◌, ◌<◌, ◌≤◌, ◌+◌, ◌-◌, List, [], ◌++◌, length, take, Option, Some, None, Result, Ok, Err, MatchResult, OnOk, OnErr, IfErr}
+use Rattle.std.specs.Prelude.{ℕ, ◌≡◌, ◌<◌, ◌≤◌, ◌+◌, ◌-◌, List, [], ◌++◌, length, take, Option, Some, None, Result, Err, MatchResult, OnOk, OnErr, IfErr}
 use Rattle.my_packets.specs.Begins.{IsWrong}
 use Rattle.my_packets.specs.Front.{HasFull, HasMessage}
 use Rattle.my_packets.specs.Packet.{packet_header, full_size, id_behind}

@@ -318,9 +318,7 @@ mod tests {
         payload: &[u8],
         place: u64,
         next_seq: u8,
-    ) -> Result<(), FrameFault>
-        ensures { IfOk result (λ _. frames.new.place + length frames.new.bytes ≡ frames.old.place + length frames.old.bytes) }
-    {
+    ) -> Result<(), FrameFault> {
         let next = frames.next()?;
         assert!(rt; next.is_some(), "a message at {place}");
         if let Some(message) = next {
@@ -369,26 +367,21 @@ mod tests {
         Ok(())
     }
 
-    // Passes over the whole messages, by `next` alone, and answers how many bytes of the stream they are.
-    fn pass_messages(frames: &mut Frames) -> Result<u64, FrameFault>
-        requires { frames.old.place + length frames.old.bytes ≤ 2 ^ 62 }
-        ensures { IfOk result (λ size. frames.new.place ≡ frames.old.place + size) }
-    {
-        let mut size = 0;
-        'messages: for _ in 0..u64::MAX {
-            match frames.next()? {
-                Some(message) => size += 4 + message.payload.len() as u64,
-                None => return Ok(size),
+    // Passes over the messages that are whole, and answers how many they are.
+    fn pass_messages(frames: &mut Frames) -> Result<u64, FrameFault> {
+        for passed in 0..u64::MAX {
+            if frames.next()?.is_none() {
+                return Ok(passed);
             }
         }
-        Ok(size)
+        Ok(u64::MAX)
     }
 
     #[test]
     fn a_loop_passes_over_what_is_whole(rt: HostRuntime) -> Result<(), Fail> {
         let mut frames = answer(rt.alloc(), 100);
         frames.feed(&[1, 0, 0, 1, 3, 0, 0, 0, 2, 5, 0, 0])?;
-        assert_eq!(rt; pass_messages(&mut frames)?, 9);
+        assert_eq!(rt; pass_messages(&mut frames)?, 2);
         assert_eq!(rt; frames.wants(), 1);
         Ok(())
     }

@@ -1,13 +1,14 @@
 // Messages of several packets, written and read.
 ghost use Rattle.std.specs.Prelude.{◌≡◌, ◌<◌};
 
-use crate::{frame_into, FrameFault, Frames, Skim};
+use crate::{FrameFault, Frames, Skim, frame_into};
 use plain_data::OutOfMemory;
 use std::alloc::Global;
 use std::process::Abort;
 use std::test::Fail;
 
 const MIB: usize = 1_048_576;
+
 const FULL: usize = 16_777_215;
 
 // Bytes that differ from place to place.
@@ -135,11 +136,23 @@ fn the_second_packet_may_be_wrong(rt: HostRuntime) -> Result<(), Fail> {
     let alloc = rt.alloc();
     let message = pattern(alloc, FULL + 1)?;
     let mut packets = packets_of(&rt, alloc, &message, 0, 2)?;
-    let whole = packets.len();
-    let header = &packets[..whole.saturating_sub(1)];
+    packets.truncate(FULL + 8);
     let past = Some(FrameFault::TooLong(16_777_216));
-    assert_eq!(rt; fault_of_frames(&rt, alloc, header, 16_777_215)?, past);
-    assert_eq!(rt; skim_all(&mut Skim::new(0, 16_777_215), header, MIB).err(), past);
+    let limit = 16_777_215;
+    assert_eq!(rt; fault_of_frames(&rt, alloc, &packets, limit)?, past);
+    assert_eq!(rt;
+        skim_all(&mut Skim::new(0, limit), &packets, MIB).err(),
+        past
+    );
+    if let Some(id) = packets.get_mut(FULL + 7) {
+        *id = 2;
+    }
+    let gap = Some(FrameFault::BadSequence(2, 1));
+    assert_eq!(rt; fault_of_frames(&rt, alloc, &packets, limit)?, gap);
+    assert_eq!(rt;
+        skim_all(&mut Skim::new(0, limit), &packets, MIB).err(),
+        gap
+    );
     Ok(())
 }
 

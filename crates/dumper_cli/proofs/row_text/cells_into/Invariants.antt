@@ -1,7 +1,6 @@
 use Rattle.std.proofs.Common.{◌≡◌, ◌++◌, true, drop}
 use Rattle.dumper_cli.specs.Columns.{is_row_of}
-use Rattle.dumper_cli.specs.DataFile.{literals}
-use Rattle.dumper_cli.specs.Texts.{led}
+use Rattle.dumper_cli.specs.DataFile.{led, literals}
 use Rattle.result_rows.specs.RowCells.{row_cells}
 use Rattle.dumper_cli.proofs.row_text.cells_into.Given as goal
 

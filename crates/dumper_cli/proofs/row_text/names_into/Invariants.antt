@@ -1,5 +1,5 @@
 use Rattle.std.proofs.Common.{◌≡◌, ◌++◌, drop}
-use Rattle.dumper_cli.specs.Texts.{led, quoted_names}
+use Rattle.dumper_cli.specs.DataFile.{led, quoted_names}
 use Rattle.dumper_cli.proofs.row_text.names_into.Given as goal
 
 abbrev pub invariant-loop-column : goal.invariant-loop-column

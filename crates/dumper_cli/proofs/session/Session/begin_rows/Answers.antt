@@ -1,6 +1,6 @@
 use Rattle.std.proofs.Common.{refl, []}
 use Rattle.std.proofs.lemmas.Result.{on_ok_weaker, IfErr-weaker}
-use Rattle.dumper_cli.specs.Place.{rows_asked, rows_come}
+use Rattle.dumper_cli.specs.Place.{rows_asked, rows_come, id_past}
 use Rattle.dumper_cli.proofs.Onward.{At-hears, Halted-misheard, Halted-turned}
 use Rattle.dumper_cli.proofs.session.Session.begin_rows.Goals as goal
 
@@ -9,12 +9,12 @@ returns-in-Err-clause-err g c = λ asked start at. Halted-misheard g.L.Link aske
 
 pub returns-clause-ok : goal.returns-clause-ok
 returns-clause-ok g c = on_ok_weaker c.query_answer.result (λ turns. λ asked start at.
-    At-hears g.L.Link asked (rows_asked c.args.columns.now) (rows_come 2 c.query_answer.new.reader c.args.columns.now []) _ start 1 c.args.self.now c.hear.new.self at c.in_default.ensures.listens c.in_default.ensures.advances c.in_default.ensures.ok refl
-    (rw c.message.ensures.payload at (turns (λ reading. rows_come 2 reading c.args.columns.now []))))
+    At-hears g.L.Link asked (rows_asked c.args.columns.now) (rows_come (id_past 1 c.hear.new.self.frames.message) c.query_answer.new.reader c.args.columns.now []) _ start 1 c.args.self.now c.hear.new.self at c.in_default.ensures.listens c.in_default.ensures.advances c.in_default.ensures.ok refl
+    (rw c.message.ensures.payload at (turns (λ reading. rows_come (id_past 1 c.hear.new.self.frames.message) reading c.args.columns.now []))))
     c.query_answer.ensures.ok
 
 pub returns-clause-err : goal.returns-clause-err
 returns-clause-err g c = IfErr-weaker c.query_answer.result _ _ (λ fault ends. λ asked start at.
     Halted-turned g.L.Link asked (rows_asked c.args.columns.now) start 1 c.args.self.now c.hear.new.self fault at c.in_default.ensures.listens c.in_default.ensures.advances c.in_default.ensures.ok refl
-    (rw (← c.message.ensures.payload) (ends (λ reading. rows_come 2 reading c.args.columns.now []))))
+    (rw (← c.message.ensures.payload) (ends (λ reading. rows_come (id_past 1 c.message.result.payload.now) reading c.args.columns.now []))))
     c.query_answer.ensures.err

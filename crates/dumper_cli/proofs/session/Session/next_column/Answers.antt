@@ -1,8 +1,7 @@
 use Rattle.std.proofs.Common.{refl, subst}
 use Rattle.std.proofs.lemmas.Result.{IfOk-weaker, IfErr-weaker}
-use Rattle.my_packets.specs.Packet.{next_id}
 use Rattle.result_rows.specs.Reading.{further_of}
-use Rattle.dumper_cli.specs.Place.{at_columns, columns_come}
+use Rattle.dumper_cli.specs.Place.{at_columns, columns_come, id_past}
 use Rattle.dumper_cli.specs.Turned.{EndsAt}
 use Rattle.dumper_cli.proofs.Onward.{Halted-misheard, Halted-turned}
 use Rattle.dumper_cli.proofs.Nexting.{Next-column}
@@ -19,5 +18,5 @@ returns-clause-ok g c = IfOk-weaker c.take_column.result _ _ (λ goes_on takes.
 pub returns-clause-err : goal.returns-clause-err
 returns-clause-err g c = IfErr-weaker c.take_column.result _ _ (λ fault ends. λ asked start at.
     Halted-turned g.L.Link asked (columns_come c.args.id c.args.reader.now c.args.columns.now) start c.args.id c.args.self.now c.hear.new.self fault at c.in_default.ensures.listens c.in_default.ensures.advances c.in_default.ensures.ok refl
-    (subst (λ m. EndsAt fault (at_columns asked (columns_come (next_id c.args.id)) c.args.reader.now c.args.columns.now (further_of c.args.reader.now m))) c.message.ensures.payload (ends asked (columns_come (next_id c.args.id)))))
+    (subst (λ m. EndsAt fault (at_columns asked (columns_come (id_past c.args.id c.hear.new.self.frames.message)) c.args.reader.now c.args.columns.now (further_of c.args.reader.now m))) c.message.ensures.payload (ends asked (columns_come (id_past c.args.id c.hear.new.self.frames.message)))))
     c.take_column.ensures.err

@@ -1,4 +1,4 @@
-use Rattle.std.proofs.Common.{◌≡◌, ◌+◌, ◌≤◌, ◌<◌, ◌++◌, ℕ, length, take, arith, ap, ◌∙◌}
+use Rattle.std.proofs.Common.{◌+◌, ◌≤◌, ◌<◌, length, take, arith, ap, ◌∙◌}
 use Rattle.std.proofs.lemmas.List.{take_all}
 use Rattle.my_packets.proofs.Skimming.{filled_all, feeds_less, feeds_other, feeds_past, feeds_empty, feeds_packet}
 use Rattle.my_packets.specs.Skimmed.{Skimmed}

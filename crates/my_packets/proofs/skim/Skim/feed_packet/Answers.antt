@@ -1,4 +1,4 @@
-use Rattle.std.proofs.Common.{◌≡◌, ◌++◌, ℕ, take, refl, arith, ap, ◌∙◌}
+use Rattle.std.proofs.Common.{◌++◌, ℕ, take, refl, arith, ap, ◌∙◌}
 use Rattle.my_packets.proofs.Skimming.{feeds_part, feeds_last, feeds_full}
 use Rattle.my_packets.specs.Skimmed.{Skimmed}
 use Rattle.my_packets.proofs.skim.Skim.feed_packet.Goals as goal

@@ -1,0 +1,37 @@
+use Rattle.std.proofs.Common.{◌≡◌, ◌∷◌, ◌^◌, [], arith, sym, ◌∙◌, subst, Err}
+use Rattle.std.proofs.lemmas.Grind.{common_steps}
+use Rattle.sql_statements.specs.Insert.{QuotedName}
+use Rattle.statement_reading.specs.Parts.{Within}
+use Rattle.statement_reading.specs.declared.fault.StatementFault.TheVariants.{OutOfMemory}
+use Rattle.statement_reading.proofs.Forms.{form_only, form_some, form_refused, form_entries, part_is}
+use Rattle.statement_reading.proofs.QueryForms.{key_values, key_slots, key_form, key_row}
+use Rattle.statement_reading.proofs.Rows.{row_only, row_some, row_refused}
+use Rattle.statement_reading.proofs.reading.queries.key_query.Goals as goal
+
+pub key_parts-requires : goal.key_parts-requires
+key_parts-requires c = record {
+  key = subst QuotedName (sym c.get-key.ensures) (part_is key_slots [] c.in-Ok.parts c.args.text.now 0 c.in-Ok.ensures (omega arith));
+  schema = subst QuotedName (sym c.get-schema.ensures) (part_is key_slots [] c.in-Ok.parts c.args.text.now 1 c.in-Ok.ensures (omega arith));
+  table = subst QuotedName (sym c.get-table.ensures) (part_is key_slots [] c.in-Ok.parts c.args.text.now 2 c.in-Ok.ensures (omega arith));
+}
+
+pub returns-in_err-made-in-Ok : goal.returns-in_err-made-in-Ok
+returns-in_err-made-in-Ok c =
+    let is : c.from_residual.result ≡ Err OutOfMemory = grind (arith, common_steps) in
+    rw is (row_some key_row c.args.text.now (form_some key_form c.args.text.now c.in-Ok.parts c.in-Ok.ensures))
+
+pub returns-in-Err : goal.returns-in-Err
+returns-in-Err c = row_refused key_row c.args.text.now c.in-Err.place (form_refused key_form c.args.text.now c.in-Err.place c.in-Err.ensures)
+
+pub count_value-requires : goal.count_value-requires
+count_value-requires c = subst (Within 0 (2 ^ 64)) (sym c.get-skipped.ensures) (part_is key_slots [] c.in-Ok.parts c.args.text.now 3 c.in-Ok.ensures (omega arith))
+
+pub returns-in_ok-made-in-Ok : goal.returns-in_ok-made-in-Ok
+returns-in_ok-made-in-Ok c =
+    let has = c.in-Ok.ensures in
+    let key = c.in_ok-made-in-Ok.ensures.0 ∙ c.get-key.ensures in
+    let schema = c.in_ok-made-in-Ok.ensures.1 ∙ c.get-schema.ensures in
+    let table = c.in_ok-made-in-Ok.ensures.2 ∙ c.get-table.ensures in
+    let skipped = c.count_value.ensures.text ∙ c.get-skipped.ensures in
+    let v : key_values = (c.in_ok-made-in-Ok.made.key, c.in_ok-made-in-Ok.made.path.schema, c.in_ok-made-in-Ok.made.path.name, c.count_value.result) in
+    row_only key_row c.args.text.now v (form_only key_form c.args.text.now c.in-Ok.parts v has (tt, c.count_value.ensures.range) ((λ i. key i ∷ schema i ∷ table i ∷ skipped i ∷ []) ∙ form_entries key_slots c.in-Ok.parts c.args.text.now has))

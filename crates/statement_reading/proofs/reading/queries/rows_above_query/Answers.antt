@@ -1,0 +1,42 @@
+use Rattle.std.proofs.Common.{◌≡◌, ◌∷◌, [], to_z, of_z, arith, sym, ◌∙◌, subst, Err}
+use Rattle.std.proofs.lemmas.Grind.{common_steps}
+use Rattle.std.proofs.lemmas.Int.{to_z-of_z}
+use Rattle.std.specs.Int.{w128}
+use Rattle.sql_statements.specs.Insert.{QuotedName}
+use Rattle.statement_reading.specs.Parts.{Names, BoundText}
+use Rattle.statement_reading.specs.declared.fault.StatementFault.TheVariants.{OutOfMemory}
+use Rattle.statement_reading.proofs.Forms.{form_only, form_some, form_refused, form_entries, part_is}
+use Rattle.statement_reading.proofs.QueryForms.{rows_above_values, rows_above_slots, rows_above_form, rows_above_row}
+use Rattle.statement_reading.proofs.Rows.{row_only, row_some, row_refused}
+use Rattle.statement_reading.proofs.reading.queries.rows_above_query.Goals as goal
+
+pub keyed_parts-requires : goal.keyed_parts-requires
+keyed_parts-requires c = record {
+  columns = subst Names (sym c.get-columns.ensures) (part_is rows_above_slots [] c.in-Ok.parts c.args.text.now 0 c.in-Ok.ensures (omega arith));
+  schema = subst QuotedName (sym c.get-schema.ensures) (part_is rows_above_slots [] c.in-Ok.parts c.args.text.now 1 c.in-Ok.ensures (omega arith));
+  table = subst QuotedName (sym c.get-table.ensures) (part_is rows_above_slots [] c.in-Ok.parts c.args.text.now 2 c.in-Ok.ensures (omega arith));
+  key = subst QuotedName (sym c.get-key.ensures) (part_is rows_above_slots [] c.in-Ok.parts c.args.text.now 3 c.in-Ok.ensures (omega arith));
+}
+
+pub returns-in_err-made-in-Ok : goal.returns-in_err-made-in-Ok
+returns-in_err-made-in-Ok c =
+    let is : c.from_residual.result ≡ Err OutOfMemory = grind (arith, common_steps) in
+    rw is (row_some rows_above_row c.args.text.now (form_some rows_above_form c.args.text.now c.in-Ok.parts c.in-Ok.ensures))
+
+pub returns-in-Err : goal.returns-in-Err
+returns-in-Err c = row_refused rows_above_row c.args.text.now c.in-Err.place (form_refused rows_above_form c.args.text.now c.in-Err.place c.in-Err.ensures)
+
+pub bound_value-requires : goal.bound_value-requires
+bound_value-requires c = subst BoundText (sym c.get-above.ensures) (part_is rows_above_slots [] c.in-Ok.parts c.args.text.now 4 c.in-Ok.ensures (omega arith))
+
+pub returns-in_ok-made-in-Ok : goal.returns-in_ok-made-in-Ok
+returns-in_ok-made-in-Ok c =
+    let has = c.in-Ok.ensures in
+    let columns = c.in_ok-made-in-Ok.ensures.0 ∙ c.get-columns.ensures in
+    let schema = c.in_ok-made-in-Ok.ensures.2 ∙ c.get-schema.ensures in
+    let table = c.in_ok-made-in-Ok.ensures.3 ∙ c.get-table.ensures in
+    let key = c.in_ok-made-in-Ok.ensures.4 ∙ c.get-key.ensures in
+    let above = c.bound_value.ensures.text ∙ c.get-above.ensures in
+    let v : rows_above_values = (c.in_ok-made-in-Ok.made.source.columns, c.in_ok-made-in-Ok.made.source.path.schema, c.in_ok-made-in-Ok.made.source.path.name, c.in_ok-made-in-Ok.made.key, c.bound_value.result) in
+    let same_above : to_z w128 (of_z w128 c.bound_value.result) ≡ c.bound_value.result = to_z-of_z w128 c.bound_value.result (record { sfits = c.bound_value.type_inv }) in
+    rw same_above (row_only rows_above_row c.args.text.now v (form_only rows_above_form c.args.text.now c.in-Ok.parts v has (c.in_ok-made-in-Ok.ensures.1, c.bound_value.ensures.range) ((λ i. columns i ∷ schema i ∷ table i ∷ key i ∷ above i ∷ []) ∙ form_entries rows_above_slots c.in-Ok.parts c.args.text.now has)))

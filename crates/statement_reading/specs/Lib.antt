@@ -1,0 +1,5 @@
+pub mod Parts
+pub mod Slots
+pub mod InsertReading
+pub mod Kinds
+pub mod Readings

@@ -1,0 +1,46 @@
+-- What readers answer.
+use Rattle.std.specs.Prelude.{◌≡◌, ℕ, ◌≤◌, ◌==◌, Bool, List, Result, Ok, Err}
+use Rattle.std.specs.List.{flat_map, list_any}
+use Rattle.grammar.specs.Language.{Language, Refused}
+use Rattle.sql_literals.specs.Name.{name_byte}
+use Rattle.sql_statements.specs.Statement.{IsTextOf, row_of}
+use Rattle.statement_reading.specs.declared.fault.StatementFault.{StatementFault}
+use Rattle.statement_reading.specs.declared.fault.StatementFault.TheVariants.{BadStatement, OutOfMemory}
+use Rattle.statement_reading.specs.declared.reading.numbers.Number.{Number}
+use Rattle.sql_statements.specs.declared.statement.Statement.{Statement}
+
+-- the reading without the number
+abbrev pub number_size : Result Number ℕ → Result ℕ ℕ
+number_size (Ok number) = Ok number.size
+number_size (Err place) = Err place
+
+abbrev pub has_byte : ℕ → List ℕ → Bool
+has_byte byte bytes = list_any (λ other. other == byte) bytes
+
+-- the bytes of some name, with each backquote doubled
+pub record IsDoubled (bytes : List ℕ) : Type 0 where
+  pub name : List ℕ
+  pub is : bytes ≡ flat_map name_byte name
+
+-- the texts of all values
+unfoldable pub TextOfSome : {V : Type 0} → (V → Language) → Language
+TextOfSome {V} F text = (value : V) × F value text
+
+-- the text is that of the value, and of no other
+pub record IsOnly {V : Type 0} (F : V → Language) (text : List ℕ) (value : V) : Type 0 where
+  pub text_of : F value text
+  pub only : (other : V) → F other text → other ≡ value
+
+-- What a reader of whole texts answers: the only value with this text, or the place where it leaves the texts of all values. Memory runs out only for a text of some value.
+abbrev pub IsRead : {V : Type 0} → (V → Language) → List ℕ → Result V StatementFault → Type 0
+IsRead F text (Ok value) = IsOnly F text value
+IsRead F text (Err (BadStatement place)) = Refused (TextOfSome F) text place
+IsRead F text (Err OutOfMemory) = TextOfSome F text
+
+-- the statement stands in this row and has this text
+abbrev pub InRow : ℕ → Statement → Language
+InRow row statement text = (row_of statement ≡ row) × IsTextOf statement text
+
+-- the statement stands in this row or a later one and has this text
+abbrev pub FromRow : ℕ → Statement → Language
+FromRow row statement text = (row ≤ row_of statement) × IsTextOf statement text
