@@ -113,7 +113,9 @@ fn front_of(bytes: &[u8], id: u8, limit: u32) -> Front
     }
 }
 
-// The same; the first packet may be full.
+// The same; the first packet may be full. (Apart, so that the path of short messages stays short.)
+#[cold]
+#[inline(never)]
 fn front_of_full(bytes: &[u8], id: u8, limit: u32) -> Front
     ensures { Begins limit id bytes.now result }
 {
@@ -142,6 +144,17 @@ fn front_of_full(bytes: &[u8], id: u8, limit: u32) -> Front
     }
 }
 
+// How many packets a message of so many bytes has. (Most have one, and need no division.)
+#[inline]
+fn count_packets(size: usize) -> usize
+    ensures { result ≡ packet_count size }
+{
+    if size < FULL_SIZE {
+        return 1;
+    }
+    size / FULL_SIZE + 1
+}
+
 // Gives up so many bytes at the front.
 fn give_up_front(store: &mut Vec<u8>, count: usize)
     requires { count ≤ vec_len store.old }
@@ -167,6 +180,8 @@ fn join(store: &mut Vec<u8>, from: usize, size: usize)
 }
 
 // Moves the payload of the packets that begin at `end`, so many bytes, to `end`, each byte once.
+#[cold]
+#[inline(never)]
 fn close_gaps(store: &mut Vec<u8>, end: usize, size: usize)
     requires in_store { end + size + 4 * packet_count size ≤ vec_len store.old }
 
@@ -251,7 +266,7 @@ impl Frames {
     {
         match front_of(&self.store[self.from..], self.id, self.limit) {
             Front::Whole(size) => {
-                let packets = size / FULL_SIZE + 1;
+                let packets = count_packets(size);
                 let passed = size + 4 * packets;
                 join(&mut self.store, self.from, size);
                 self.began = self.place;

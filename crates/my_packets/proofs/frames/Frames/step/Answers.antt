@@ -22,7 +22,7 @@ returns-in-Whole c =
     let split = to_the_end frames.store.items _ frames.limit frames.id frames.from c.in-Whole.size c.deref.ensures.value c.in-Whole.ensures in
     let stood = stands frames.limit frames.id frames.from c.in-Whole.size frames.store.items c.join.new.store.items split c.join.ensures.joined in
     rw (← c.self.view_is) record {
-      message = stood.message_is;
+      message = rw c.count_packets-packets.ensures stood.message_is;
       began = refl;
       place = let size_is = stood.size_is in omega arith;
       id = let size_is = stood.size_is in omega arith;
