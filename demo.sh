@@ -1,7 +1,7 @@
 #!/usr/bin/env bash
-# Shows mydumper at work: starts a real server on files in a temporary folder, makes a table, dumps it,
-# loads the file with the server's own client into a second database, and compares the two tables.
-# The status is 0 exactly where the tables are equal.
+# Shows mydumper at work: starts a real server on files in a temporary folder, makes two tables, one of
+# them with a single text of 40 MiB, dumps them, loads the files with the server's own client into a
+# second database, and compares the tables. The status is 0 exactly where they are equal.
 set -u
 
 PORT=3306
@@ -9,6 +9,10 @@ ACCOUNT=reader
 SOURCE=shop
 TARGET=shop_again
 TABLE=items
+LONG_TABLE=texts
+
+# The longest message of the server that mydumper reads, in bytes.
+LIMIT=67108864
 
 top=$(cd "$(dirname "${BASH_SOURCE[0]}")" && pwd) || exit 1
 folder=
@@ -104,7 +108,7 @@ start_server() {
         fail "the server's files were not made"
     }
     "$mariadbd" --no-defaults --datadir="$folder/data" --socket="$folder/socket" --port="$PORT" \
-        --bind-address=127.0.0.1 --pid-file="$folder/pid" --user="$user" --skip-name-resolve \
+        --bind-address=127.0.0.1 --max-allowed-packet="$LIMIT" --pid-file="$folder/pid" --user="$user" --skip-name-resolve \
         >"$folder/server.log" 2>&1 </dev/null &
     server=$!
     for _ in $(seq 120); do
@@ -138,8 +142,12 @@ INSERT INTO $SOURCE.$TABLE VALUES
 (4, 7, 0.00, CONCAT('a', CHAR(0), 'b', CHAR(26), 'c'), 'klein', 'NULL', NULL),
 (5, 8, 1.00, 'naïve – 漢字 – 🙂', 'groß', '', NULL),
 (-6, 9, 1.25, '\`;-- ', 'klein', ');DROP TABLE t;', NULL);
+CREATE TABLE $SOURCE.$LONG_TABLE (id int NOT NULL PRIMARY KEY, note longtext);
+GRANT SELECT ON $SOURCE.$LONG_TABLE TO '$ACCOUNT'@'127.0.0.1';
+INSERT INTO $SOURCE.$LONG_TABLE VALUES (1, REPEAT('it''s a long\ntext', 2621440));
 CREATE DATABASE $TARGET CHARACTER SET utf8mb4;
 CREATE TABLE $TARGET.$TABLE LIKE $SOURCE.$TABLE;
+CREATE TABLE $TARGET.$LONG_TABLE LIKE $SOURCE.$LONG_TABLE;
 SQL
 }
 
@@ -159,6 +167,27 @@ compare_tables() {
     [ -s "$folder/source.rows" ] && cmp "$folder/source.rows" "$folder/target.rows"
 }
 
+# How many rows the table with the long text has, how many bytes of text, and the text's digest.
+long_text_of() {
+    client --batch --skip-column-names -e "SELECT COUNT(*), SUM(LENGTH(note)), MAX(MD5(note)) FROM $1.$LONG_TABLE"
+}
+
+# Dumps a table of $SOURCE into this new folder; the file is $file then.
+dump() {
+    local words=(-u "$ACCOUNT" -B "$SOURCE" -T "$1" -o "$2")
+    say "mydumper ${words[*]}"
+    (cd "$folder" && "$program" "${words[@]}") || fail "mydumper ended with status $?"
+    file=$folder/$2/$SOURCE.$1.00000.sql
+    [ -f "$file" ] || fail "there is no file $SOURCE.$1.00000.sql"
+    say "$2/$SOURCE.$1.00000.sql, $(wc -c <"$file") bytes"
+}
+
+load() {
+    say "loading the file into $TARGET"
+    client --binary-mode --max-allowed-packet="$LIMIT" --init-command="SET SESSION sql_mode='NO_AUTO_VALUE_ON_ZERO'" \
+        "$TARGET" <"$file" || fail "the client did not load the file"
+}
+
 folder=$(mktemp -d "${TMPDIR:-/tmp}/mydumper-demo.XXXXXX") || fail "no temporary folder"
 check_port
 mariadbd=$(find_server) || {
@@ -170,15 +199,15 @@ say "starting $("$mariadbd" --no-defaults --version | sed 's/^[^ ]* *//')"
 start_server
 make_tables
 
-words=(-u "$ACCOUNT" -B "$SOURCE" -T "$TABLE" -o dump)
-say "mydumper ${words[*]}"
-(cd "$folder" && "$program" "${words[@]}") || fail "mydumper ended with status $?"
-file=$folder/dump/$SOURCE.$TABLE.00000.sql
-[ -f "$file" ] || fail "there is no file $SOURCE.$TABLE.00000.sql"
-say "dump/$SOURCE.$TABLE.00000.sql, $(wc -c <"$file") bytes:"
+dump "$TABLE" dump
 cat "$file"
-
-say "loading the file into $TARGET"
-client --binary-mode --init-command="SET SESSION sql_mode='NO_AUTO_VALUE_ON_ZERO'" "$TARGET" <"$file" || fail "the client did not load the file"
+load
 compare_tables || fail "$SOURCE.$TABLE and $TARGET.$TABLE are not equal"
 say "$SOURCE.$TABLE and $TARGET.$TABLE: $(wc -l <"$folder/source.rows") rows, equal"
+
+dump "$LONG_TABLE" dump_long
+load
+dumped=$(long_text_of "$SOURCE") && loaded=$(long_text_of "$TARGET") || fail "the texts were not read"
+[ -n "$dumped" ] && [ "$dumped" = "$loaded" ] || fail "$SOURCE.$LONG_TABLE and $TARGET.$LONG_TABLE are not equal"
+read -r _ size digest <<<"$dumped"
+say "$SOURCE.$LONG_TABLE and $TARGET.$LONG_TABLE: a text of $size bytes, MD5 $digest, equal"

@@ -71,6 +71,16 @@ INSERT INTO `t` (`id`,`a`) VALUES
 (2,NULL);
 ";
 
+// The file of one row whose second cell is long, without that cell and the end.
+const FILE_FRONT: &[u8] = b"SET NAMES binary;
+SET FOREIGN_KEY_CHECKS=0;
+SET TIME_ZONE='+00:00';
+INSERT INTO `t` (`id`,`a`) VALUES
+(1,'";
+
+// A cell of so many bytes has its length in three bytes, and its row has more than one packet.
+const LONG: usize = 16_777_215;
+
 const LOGIN: &[u8] =
     b"\x39\x00\x00\x01\x05\xa2\x08\x00\x00\x00\x00\x04\x2d\x00\x00\x00\x00\x00\x00\x00\x00\x00\x00\x00\x00\x00\x00\x00\x00\x00\x00\x00\x00\x00\x00\x00u\x00\x00mysql_native_password\x00";
 
@@ -106,12 +116,24 @@ const PLAIN: Case<'static> = Case {
     listed: None,
 };
 
+// A table of these rows, and nothing in its way.
+fn of_rows<'a>(rows: &'a [&'a [u8]]) -> Case<'a> {
+    Case {
+        words: &WORDS,
+        login: OK,
+        rows,
+        cut: 0,
+        faults: &[],
+        listed: None,
+    }
+}
+
 // The packets of these messages, from a sequence id on.
 fn packets(rt: &impl Abort, alloc: Global, first: u8, messages: &[&[u8]]) -> Result<Bytes, Fail> {
     let mut out = Vec::new(alloc);
     let mut id = first;
     for message in messages {
-        assert!(rt; message.len() < 1000);
+        assert!(rt; message.len() <= 67_108_864);
         id = frame_into(message, id, &mut out)?;
     }
     Ok(Bytes::of(alloc, out.as_slice())?)
@@ -247,6 +269,15 @@ fn is_at(messages: &[Bytes], number: usize, message: &[u8]) -> bool {
     number < messages.len() && messages[number].as_slice() == message
 }
 
+// The letter `a` as often as a long cell has bytes, between these.
+fn around_long(alloc: Global, front: &[u8], end: &[u8]) -> Result<Vec<u8>, Fail> {
+    let mut bytes = Vec::new(alloc);
+    bytes.extend_from_slice(front)?;
+    bytes.resize(front.len() + LONG, b'a')?;
+    bytes.extend_from_slice(end)?;
+    Ok(bytes)
+}
+
 // Runs a case. `sent` is how many messages were sent on a link that came back, and `file` the data
 // file.
 fn check<R: Abort + Threads + Sync>(
@@ -373,6 +404,21 @@ fn a_table_without_rows_has_no_file(rt: HostRuntime) -> Result<(), Fail> {
         ..PLAIN
     };
     check(&rt, rt.alloc(), &case, 0, Some(6), None)
+}
+
+#[test]
+fn a_row_of_two_packets_is_dumped_whole(rt: HostRuntime) -> Result<(), Fail> {
+    let row = around_long(rt.alloc(), b"\x011\xfd\xff\xff\xff", b"")?;
+    let file = around_long(rt.alloc(), FILE_FRONT, b"');\n")?;
+    let rows = [b"\x02", DEFINITION, DEFINITION, EOF, row.as_slice(), EOF];
+    check(
+        &rt,
+        rt.alloc(),
+        &of_rows(&rows),
+        0,
+        Some(6),
+        Some(file.as_slice()),
+    )
 }
 
 #[test]
