@@ -1,5 +1,5 @@
 // A link, what is sent on it, and the messages that are heard on it.
-ghost use Rattle.std.specs.Prelude.{◌≡◌, ◌<◌, ◌≤◌, ◌↔◌, ◌+◌, ◌-◌, ◌++◌, ◌∷◌, ℕ, [], length, take, false, true, IfErr, IfOk, OnOk, OnErr, Err};
+ghost use Rattle.std.specs.Prelude.{◌≡◌, ◌<◌, ◌≤◌, ◌↔◌, ◌+◌, ◌-◌, ◌++◌, ◌∷◌, ℕ, [], length, take, false, IfErr, IfOk, OnOk, OnErr, Err};
 ghost use Rattle.link_traits.specs.Link.{stream};
 ghost use Rattle.my_packets.specs.Front.{Wants};
 ghost use Rattle.my_packets.specs.Packet.{packet, id_behind};
@@ -12,15 +12,13 @@ ghost use Rattle.my_session.specs.Session.{IsCounted, failed_by};
 ghost use Rattle.my_session.specs.Wire.{Hears, behind_sent};
 
 use crate::fault::SessionFault;
-use crate::limits::{MESSAGE_LIMIT, PIECE, SESSION_LIMIT, SHORT_TEXT};
+use crate::limits::{MESSAGE_LIMIT, PIECE, SESSION_LIMIT, SHORT_PAYLOAD};
 use link_traits::Link;
 use my_packets::{FrameFault, Frames, Message, Skim, frame_into, header};
 use std::alloc::Global;
 use std::marker::Model;
 
-// A payload of at most so many bytes, COM_QUERY and a short text, is sent without taking memory.
-const SHORT_PAYLOAD: usize = SHORT_TEXT + 1;
-
+// A short payload's one packet has at most so many bytes.
 const SHORT_PACKET: usize = SHORT_PAYLOAD + 4;
 
 /// A link, and the message that was heard last on it.
@@ -282,20 +280,6 @@ impl<L: Link> Channel<L> {
             has_failed: _,
         } = self;
         link
-    }
-
-    /// Counts the session as failed. Takes no memory.
-    pub fn fail(&mut self)
-        ensures { self.new ≡ record self.old { has_failed = true } }
-    {
-        self.has_failed = true;
-    }
-
-    /// Whether the session counts as failed. Takes no memory.
-    pub fn has_failed(&self) -> bool
-        ensures { result ≡ self.now.has_failed }
-    {
-        self.has_failed
     }
 
     /// Sends bytes that are the packets of a payload, behind which comes this id. Takes no memory.

@@ -15,6 +15,7 @@ ghost use Rattle.my_session.specs.Wire.{Wire, Takes, behind_sent};
 
 use crate::channel::Channel;
 use crate::fault::SessionFault;
+use crate::limits::SHORT_PAYLOAD;
 use crate::run::{hear_done, read_reply, run_on};
 use link_traits::Link;
 use my_login::{Greeting, LoginFault, Switch, native_answer, response_into};
@@ -22,9 +23,6 @@ use result_rows::{Reply, RowReader};
 use sql_literals::Buffer;
 use sql_statements::{Command, Form};
 use std::alloc::Global;
-
-// A payload of at most so many bytes, COM_QUERY and a text of at most 1,000, has room from the login on.
-const RESERVED: usize = 1001;
 
 // What a server decides of a login.
 enum Decision {
@@ -242,10 +240,10 @@ fn set_up<L: Link>(channel: &mut Channel<L>, payload: &mut Buffer) -> Result<(),
     ensures tells { L.tells channel.old.link ↔ L.tells channel.new.link }
     ensures counted { IsCounted (L.faults channel.old.link) (L.faults channel.new.link) result }
     ensures alive { OnOk result (channel.new.has_failed ≡ false) }
-    ensures room { OnOk result (RESERVED ≤ length payload.new.bytes + payload.new.spare) }
+    ensures room { OnOk result (SHORT_PAYLOAD ≤ length payload.new.bytes + payload.new.spare) }
     ensures runs { L.tells channel.old.link → Runs SetUp (channel_wire L.Link channel.old) result (channel_wire L.Link channel.new) }
 {
-    if payload.reserve(RESERVED).is_err() {
+    if payload.reserve(SHORT_PAYLOAD).is_err() {
         return Err(SessionFault::OutOfMemory);
     }
     run_on(channel, payload, &Command::SetUp)
@@ -264,7 +262,7 @@ pub(crate) fn log_in<L: Link>(
     ensures tells { L.tells channel.old.link ↔ L.tells channel.new.link }
     ensures counted { IsCounted (L.faults channel.old.link) (L.faults channel.new.link) result }
     ensures alive { OnOk result (channel.new.has_failed ≡ false) }
-    ensures room { OnOk result (RESERVED ≤ length payload.new.bytes + payload.new.spare) }
+    ensures room { OnOk result (SHORT_PAYLOAD ≤ length payload.new.bytes + payload.new.spare) }
     ensures ok { OnOk result (L.tells channel.old.link → Takes (IsLoggedIn user.now password.now) (channel_wire L.Link channel.old) (channel_wire L.Link channel.new)) }
     ensures err { IfErr result (λ fault. L.tells channel.old.link → Stops (LoginAwaits user.now password.now) (LoginSends user.now password.now) (channel_wire L.Link channel.old) fault (channel_wire L.Link channel.new)) }
 {

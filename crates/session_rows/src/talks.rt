@@ -16,7 +16,7 @@ const OK: &[u8] = b"\x00\x00\x00\x02\x00\x00\x00";
 
 const EOF: &[u8] = b"\xfe\x00\x00\x02\x00";
 
-// A greeting that proposes `caching_sha2_password`: a message of 75 bytes.
+// A greeting that proposes `caching_sha2_password`: a message of 74 bytes.
 const GREETING: &[u8] =
     b"\x0a8.0.36\x00\x07\x00\x00\x00abcdefgh\x00\x00\xa2\x2d\x02\x00\x08\x00\x15\x00\x00\x00\x00\x00\x00\x00\x00\x00\x00ijklmnopqrst\x00caching_sha2_password\x00";
 
@@ -367,28 +367,104 @@ fn a_login_stops_at_what_it_cannot_answer(rt: HostRuntime) -> Result<(), Fail> {
     check_login(&rt, alloc, &[said(0, &[DENIED])], Kind::LoginRefused, 1045, 0)?;
     check_login(&rt, alloc, &[greets, said(2, &[DENIED])], Kind::LoginRefused, 1045, 1)?;
     check_login(&rt, alloc, &[greets, said(2, &[OTHER_SWITCH])], Kind::OtherPlugin, 21, 1)?;
-    check_login(&rt, alloc, &[greets, said(3, &[OK])], Kind::Garbled, 79, 1)
+    check_login(&rt, alloc, &[greets, said(3, &[OK])], Kind::Garbled, 78, 1)
 }
 
-// Checks how work on a session ends, to which the server answers this, and how many messages are sent.
-fn check_work(
-    rt: &impl Abort,
-    alloc: Global,
+// A reply to work on a session that was begun, the calls of the site that fail, and how the work ends.
+#[derive(Clone, Copy)]
+struct WorkCase<'a> {
     work: Work,
-    reply: Said<'_>,
-    faults: &[u64],
-    ending: Ending,
+    first: u8,
+    reply: &'a [&'a [u8]],
+    faults: &'a [u64],
+    report: Report,
     sent: usize,
-) -> Result<Report, Fail> {
-    let case = Case {
+}
+
+const fn ends(kind: Kind, number: u64, rows: u32) -> Report {
+    Report {
+        ending: Ending { kind, number },
+        rows,
+    }
+}
+
+fn check_work(rt: &impl Abort, alloc: Global, case: &WorkCase<'_>) -> Result<(), Fail> {
+    let says = [BEGUN[0], BEGUN[1], BEGUN[2], said(case.first, case.reply)];
+    let talked = Case {
         password: b"",
-        says: &[BEGUN[0], BEGUN[1], BEGUN[2], reply],
+        says: &says,
         cut: 0,
-        faults,
-        work,
+        faults: case.faults,
+        work: case.work,
     };
-    let ended = talk(rt, alloc, &case)?;
-    assert_eq!(rt; ended.report.ending, ending);
-    assert_eq!(rt; ended.sent(), sent);
-    Ok(ended.report)
+    let ended = talk(rt, alloc, &talked)?;
+    assert_eq!(rt; ended.report.ending, case.report.ending);
+    assert_eq!(rt; ended.report.rows, case.report.rows);
+    assert_eq!(rt; ended.sent(), case.sent);
+    Ok(())
+}
+
+#[test]
+fn a_command_ends_by_its_reply(rt: HostRuntime) -> Result<(), Fail> {
+    // Behind a refusal the session goes on, and closing it says so.
+    let cases = [
+        (1, OK, ends(Kind::Well, 0, 0), 4),
+        (1, LOST, ends(Kind::Refused, 1146, 0), 4),
+        (1, LOCAL_FILE, ends(Kind::Garbled, 100, 0), 3),
+        (2, OK, ends(Kind::Garbled, 100, 0), 3),
+    ];
+    for (first, reply, report, sent) in cases {
+        let case = WorkCase {
+            work: Work::Run,
+            first,
+            reply: &[reply],
+            faults: &[],
+            report,
+            sent,
+        };
+        check_work(&rt, rt.alloc(), &case)?;
+    }
+    Ok(())
+}
+
+#[test]
+fn rows_are_read_to_their_end(rt: HostRuntime) -> Result<(), Fail> {
+    let case = WorkCase {
+        work: Work::Read,
+        first: 1,
+        reply: &[b"\x01", DEFINITION, EOF, b"\x013", b"\x013", EOF],
+        faults: &[],
+        report: ends(Kind::Well, 0, 2),
+        sent: 4,
+    };
+    check_work(&rt, rt.alloc(), &case)
+}
+
+#[test]
+fn rows_may_end_in_a_fault(rt: HostRuntime) -> Result<(), Fail> {
+    let refused = WorkCase {
+        work: Work::Read,
+        first: 1,
+        reply: &[b"\x01", DEFINITION, EOF, b"\x013", LOST],
+        faults: &[],
+        report: ends(Kind::Refused, 1146, 1),
+        sent: 4,
+    };
+    check_work(&rt, rt.alloc(), &refused)?;
+    let broken = WorkCase {
+        work: Work::Read,
+        first: 1,
+        reply: &[b"\x01", DEFINITION, EOF, b"\x013", b"\x013", EOF],
+        faults: &[19],
+        report: ends(Kind::Link, 0, 1),
+        sent: 3,
+    };
+    check_work(&rt, rt.alloc(), &broken)?;
+    let file = WorkCase {
+        reply: &[LOCAL_FILE],
+        faults: &[],
+        report: ends(Kind::Garbled, 100, 0),
+        ..broken
+    };
+    check_work(&rt, rt.alloc(), &file)
 }
