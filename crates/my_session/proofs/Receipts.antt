@@ -154,12 +154,14 @@ module _ {L : Type 0} (of : Ghosts L) where
     gathered_part StreamTooLong wants id taken_now next some wanted sent why t =
         let all = gathers.taken in
         let whole : frames.bytes ≡ take (2 ^ 62 - taken_first) (stream (of.told start)) = full_within (2 ^ 62 - taken_first) frames.bytes (stream (of.told link)) (stream (of.told start)) (omega arith) (gathers.stream t) in
-        let size : length (take (2 ^ 62 - taken_first) (stream (of.told start))) ≡ length frames.bytes = ap (λ (l : List ℕ). length l) (sym whole) in
-        (record {
-          more = wants;
-          part =
-              subst (λ (l : List ℕ). IsPart 67108864 first.id wants l) whole (
-              subst (λ (n : ℕ). IsPart n first.id wants frames.bytes) (gathers.limit ∙ limited) (subst (λ (n : ℕ). IsPart frames.limit n wants frames.bytes) gathers.id (wanted.part some)));
-          full = omega arith;
-        }, sent (gathers.tells.0 t) ∙ gathers.sent t)
+        let size : length (take (2 ^ 62 - taken_first) (stream (of.told start))) ≡ length frames.bytes = ap (λ (l : List ℕ). length l) (sym whole) in (
+          record {
+            more = wants;
+            part =
+                subst (λ (l : List ℕ). IsPart 67108864 first.id wants l) whole (
+                subst (λ (n : ℕ). IsPart n first.id wants frames.bytes) (gathers.limit ∙ limited) (subst (λ (n : ℕ). IsPart frames.limit n wants frames.bytes) gathers.id (wanted.part some)));
+            full = omega arith;
+          },
+          sent (gathers.tells.0 t) ∙ gathers.sent t,
+        )
     gathered_part OutOfMemory wants id taken_now next some wanted sent why t = sent (gathers.tells.0 t) ∙ gathers.sent t

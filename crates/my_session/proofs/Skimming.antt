@@ -153,10 +153,12 @@ module _ {L : Type 0} (of : Ghosts L) where
       drained_not next StreamTooLong wants taken_now id some wanted sent why t =
           let all = drains.taken in
           let whole : drains.fed ≡ take (2 ^ 62 - taken_first) (stream (of.told start)) = full_within (2 ^ 62 - taken_first) drains.fed (stream (of.told link)) (stream (of.told start)) (omega arith) (drains.stream t) in
-          let size : length (take (2 ^ 62 - taken_first) (stream (of.told start))) ≡ length drains.fed = ap (λ (l : List ℕ). length l) (sym whole) in
-          (record {
-            more = wants;
-            part = subst (λ (l : List ℕ). IsPart 67108864 seq wants l) whole (wanted.part some);
-            full = omega arith;
-          }, sent (drains.tells.0 t) ∙ drains.sent t)
+          let size : length (take (2 ^ 62 - taken_first) (stream (of.told start))) ≡ length drains.fed = ap (λ (l : List ℕ). length l) (sym whole) in (
+            record {
+              more = wants;
+              part = subst (λ (l : List ℕ). IsPart 67108864 seq wants l) whole (wanted.part some);
+              full = omega arith;
+            },
+            sent (drains.tells.0 t) ∙ drains.sent t,
+          )
       drained_not next OutOfMemory wants taken_now id some wanted sent why t = absurd why

@@ -115,11 +115,7 @@ fn settle(frames: &mut Frames, began: u64) -> Result<(), SessionFault>
 }
 
 // Takes the next message off the link.
-fn receive<L: Link>(
-    link: &mut L,
-    frames: &mut Frames,
-    taken: &mut u64,
-) -> Result<(), SessionFault>
+fn receive<L: Link>(link: &mut L, frames: &mut Frames, taken: &mut u64) -> Result<(), SessionFault>
     requires empty { frames.old.bytes ≡ [] }
     requires limit { frames.old.limit ≡ 67108864 }
     requires place { frames.old.place ≤ taken.old }

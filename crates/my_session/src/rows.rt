@@ -263,11 +263,7 @@ fn ask<L: Link>(
 
 // Reads a message in the place of a row, and says whether it is one; else it is the end. Behind a
 // fault nothing is pending.
-fn judge(
-    reader: &mut RowReader,
-    form: Form,
-    message: Message<'_>,
-) -> Result<bool, SessionFault>
+fn judge(reader: &mut RowReader, form: Form, message: Message<'_>) -> Result<bool, SessionFault>
     requires pending { 0 < reader.old.columns }
     requires rows { reader.old.awaited ≡ 0 }
 
@@ -320,7 +316,12 @@ impl<L: Link> Reads for Session<L> {
     ghost view = { λ session. record { wire = wire_of L.Link session; faults = L.faults session.link; has_failed = session.has_failed; pending = session.pending } };
 
     fn query(&mut self, query: &Query<'_>) -> Result<u32, SessionFault> {
-        match ask(&mut self.channel, &mut self.payload, &mut self.reader, query) {
+        match ask(
+            &mut self.channel,
+            &mut self.payload,
+            &mut self.reader,
+            query,
+        ) {
             Ok(columns) => {
                 self.form = query.form();
                 Ok(columns)

@@ -51,10 +51,7 @@ pub(crate) fn read_reply(payload: &[u8], reader: &mut RowReader) -> Option<Reply
 
 /// Hears an OK, where an ERR answers a statement of this form. Takes no memory.
 #[tactic(auto, using(crate::proofs::Answering::halts_done, crate::proofs::Answering::misheard_halts, crate::proofs::Answering::channel_of_statement))]
-pub(crate) fn hear_done<L: Link>(
-    channel: &mut Channel<L>,
-    form: Form,
-) -> Result<(), SessionFault>
+pub(crate) fn hear_done<L: Link>(channel: &mut Channel<L>, form: Form) -> Result<(), SessionFault>
     requires alive { channel.old.has_failed ≡ false }
 
     ensures tells { L.tells channel.old.link ↔ L.tells channel.new.link }

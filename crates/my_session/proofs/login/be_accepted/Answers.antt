@@ -17,7 +17,7 @@ returns-in-Ok-Switched-clause-ok g c =
     let old = channel_wire g.L.Link c.args.channel.now in
     let middle = channel_wire g.L.Link c.hear_decision.new.channel in
     on_ok_weaker c.answer_switch.result (λ ok start user t takes.
-        ok start user (c.in-Ok-Switched.ensures.tells.0 t) (asked_to_switch user c.args.password.now start old middle c.in-Ok-Switched.switch takes (subst (λ (d : Decision). HearsDecision d old middle) c.in-Ok-Switched.field-0-is (c.in-Ok-Switched.ensures.heard t))))
+    ok start user (c.in-Ok-Switched.ensures.tells.0 t) (asked_to_switch user c.args.password.now start old middle c.in-Ok-Switched.switch takes (subst (λ (d : Decision). HearsDecision d old middle) c.in-Ok-Switched.field-0-is (c.in-Ok-Switched.ensures.heard t))))
     c.answer_switch.ensures.ok
 
 pub returns-in-Ok-Switched-clause-err : goal.returns-in-Ok-Switched-clause-err
@@ -25,7 +25,7 @@ returns-in-Ok-Switched-clause-err g c =
     let old = channel_wire g.L.Link c.args.channel.now in
     let middle = channel_wire g.L.Link c.hear_decision.new.channel in
     IfErr-weaker c.answer_switch.result _ _ (λ fault err start user t takes.
-        err start user (c.in-Ok-Switched.ensures.tells.0 t) (asked_to_switch user c.args.password.now start old middle c.in-Ok-Switched.switch takes (subst (λ (d : Decision). HearsDecision d old middle) c.in-Ok-Switched.field-0-is (c.in-Ok-Switched.ensures.heard t))))
+    err start user (c.in-Ok-Switched.ensures.tells.0 t) (asked_to_switch user c.args.password.now start old middle c.in-Ok-Switched.switch takes (subst (λ (d : Decision). HearsDecision d old middle) c.in-Ok-Switched.field-0-is (c.in-Ok-Switched.ensures.heard t))))
     c.answer_switch.ensures.err
 
 pub returns-in-Err-clause-err : goal.returns-in-Err-clause-err

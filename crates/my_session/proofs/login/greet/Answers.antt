@@ -11,11 +11,11 @@ returns-in-Err-clause-err g c = λ t.
 pub returns-clause-ok : goal.returns-clause-ok
 returns-clause-ok g c =
     on_ok_weaker c.respond.result (λ sent t.
-        greet_said c.args.user.now c.args.password.now (channel_wire g.L.Link c.args.channel.now) (channel_wire g.L.Link c.hear_greeting.new.channel) (channel_wire g.L.Link c.respond.new.channel) c.in-Ok.greeting (c.in-Ok.ensures.heard t) _ (c.as_ref.ensures.value ∙ c.password_answer-answer.ensures) (sent (c.in-Ok.ensures.tells.0 t)))
+    greet_said c.args.user.now c.args.password.now (channel_wire g.L.Link c.args.channel.now) (channel_wire g.L.Link c.hear_greeting.new.channel) (channel_wire g.L.Link c.respond.new.channel) c.in-Ok.greeting (c.in-Ok.ensures.heard t) _ (c.as_ref.ensures.value ∙ c.password_answer-answer.ensures) (sent (c.in-Ok.ensures.tells.0 t)))
     c.respond.ensures.sent
 
 pub returns-clause-err : goal.returns-clause-err
 returns-clause-err g c =
     IfErr-weaker c.respond.result _ _ (λ fault unsaid t.
-        greet_unsaid c.args.user.now c.args.password.now (channel_wire g.L.Link c.args.channel.now) (channel_wire g.L.Link c.hear_greeting.new.channel) (channel_wire g.L.Link c.respond.new.channel) c.in-Ok.greeting (c.in-Ok.ensures.heard t) _ (c.as_ref.ensures.value ∙ c.password_answer-answer.ensures) fault (unsaid (c.in-Ok.ensures.tells.0 t)))
+    greet_unsaid c.args.user.now c.args.password.now (channel_wire g.L.Link c.args.channel.now) (channel_wire g.L.Link c.hear_greeting.new.channel) (channel_wire g.L.Link c.respond.new.channel) c.in-Ok.greeting (c.in-Ok.ensures.heard t) _ (c.as_ref.ensures.value ∙ c.password_answer-answer.ensures) fault (unsaid (c.in-Ok.ensures.tells.0 t)))
     c.respond.ensures.err

@@ -11,12 +11,12 @@ pub returns-clause-ok : goal.returns-clause-ok
 returns-clause-ok g c =
     let start = channel_wire g.L.Link c.args.channel.now in
     ok_where _ c.set_up.result (λ t.
-        let told = c.in_default.ensures.tells.0 t in
-        logged_in c.args.user.now c.args.password.now start (channel_wire g.L.Link c.be_accepted.new.channel) (channel_wire g.L.Link c.set_up.new.channel) (c.in_default-be_accepted.ensures.ok start c.args.user.now told (c.in_default.ensures.ok t)) c.set_up.result (c.set_up.ensures.runs (c.in_default-be_accepted.ensures.tells.0 told)))
+    let told = c.in_default.ensures.tells.0 t in
+    logged_in c.args.user.now c.args.password.now start (channel_wire g.L.Link c.be_accepted.new.channel) (channel_wire g.L.Link c.set_up.new.channel) (c.in_default-be_accepted.ensures.ok start c.args.user.now told (c.in_default.ensures.ok t)) c.set_up.result (c.set_up.ensures.runs (c.in_default-be_accepted.ensures.tells.0 told)))
 
 pub returns-clause-err : goal.returns-clause-err
 returns-clause-err g c =
     let start = channel_wire g.L.Link c.args.channel.now in
     err_where _ c.set_up.result (λ t.
-        let told = c.in_default.ensures.tells.0 t in
-        not_logged_in c.args.user.now c.args.password.now start (channel_wire g.L.Link c.be_accepted.new.channel) (channel_wire g.L.Link c.set_up.new.channel) (c.in_default-be_accepted.ensures.ok start c.args.user.now told (c.in_default.ensures.ok t)) c.set_up.result (c.set_up.ensures.runs (c.in_default-be_accepted.ensures.tells.0 told)))
+    let told = c.in_default.ensures.tells.0 t in
+    not_logged_in c.args.user.now c.args.password.now start (channel_wire g.L.Link c.be_accepted.new.channel) (channel_wire g.L.Link c.set_up.new.channel) (c.in_default-be_accepted.ensures.ok start c.args.user.now told (c.in_default.ensures.ok t)) c.set_up.result (c.set_up.ensures.runs (c.in_default-be_accepted.ensures.tells.0 told)))
