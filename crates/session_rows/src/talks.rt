@@ -97,7 +97,7 @@ struct Case<'a> {
     work: Work,
 }
 
-const fn said<'a>(first: u8, messages: &'a [&'a [u8]]) -> Said<'a> {
+const fn from_id<'a>(first: u8, messages: &'a [&'a [u8]]) -> Said<'a> {
     Said { first, messages }
 }
 
@@ -161,7 +161,7 @@ fn read<L: Link>(session: &mut Session<L>) -> Report
     let mut rows = 0;
     'rows: for _ in 0..100 {
         match session.next_row() {
-            Ok(Some(row)) => rows += u32::from(is_three(&row)),
+            Ok(Some(row)) => rows = u32::from(is_three(&row)).saturating_add(rows),
             Ok(None) => return Report { ending: WELL, rows },
             Err(fault) => return at(&fault, rows),
         }
@@ -321,10 +321,10 @@ fn another_scramble_is_answered(rt: HostRuntime) -> Result<(), Fail> {
     let case = Case {
         password: b"password",
         says: &[
-            said(0, &[GREETING]),
-            said(2, &[SWITCH]),
-            said(4, &[OK]),
-            said(1, &[OK]),
+            from_id(0, &[GREETING]),
+            from_id(2, &[SWITCH]),
+            from_id(4, &[OK]),
+            from_id(1, &[OK]),
         ],
         cut: 7,
         faults: &[],
@@ -362,12 +362,47 @@ fn check_login(
 #[test]
 fn a_login_stops_at_what_it_cannot_answer(rt: HostRuntime) -> Result<(), Fail> {
     let alloc = rt.alloc();
-    let greets = said(0, &[GREETING]);
-    check_login(&rt, alloc, &[said(0, &[OLD_GREETING])], Kind::OtherProtocol, 9, 0)?;
-    check_login(&rt, alloc, &[said(0, &[DENIED])], Kind::LoginRefused, 1045, 0)?;
-    check_login(&rt, alloc, &[greets, said(2, &[DENIED])], Kind::LoginRefused, 1045, 1)?;
-    check_login(&rt, alloc, &[greets, said(2, &[OTHER_SWITCH])], Kind::OtherPlugin, 21, 1)?;
-    check_login(&rt, alloc, &[greets, said(3, &[OK])], Kind::Garbled, 78, 1)
+    let greets = from_id(0, &[GREETING]);
+    check_login(
+        &rt,
+        alloc,
+        &[from_id(0, &[OLD_GREETING])],
+        Kind::OtherProtocol,
+        9,
+        0,
+    )?;
+    check_login(
+        &rt,
+        alloc,
+        &[from_id(0, &[DENIED])],
+        Kind::LoginRefused,
+        1045,
+        0,
+    )?;
+    check_login(
+        &rt,
+        alloc,
+        &[greets, from_id(2, &[DENIED])],
+        Kind::LoginRefused,
+        1045,
+        1,
+    )?;
+    check_login(
+        &rt,
+        alloc,
+        &[greets, from_id(2, &[OTHER_SWITCH])],
+        Kind::OtherPlugin,
+        21,
+        1,
+    )?;
+    check_login(
+        &rt,
+        alloc,
+        &[greets, from_id(3, &[OK])],
+        Kind::Garbled,
+        78,
+        1,
+    )
 }
 
 // A reply to work on a session that was begun, the calls of the site that fail, and how the work ends.
@@ -389,7 +424,12 @@ const fn ends(kind: Kind, number: u64, rows: u32) -> Report {
 }
 
 fn check_work(rt: &impl Abort, alloc: Global, case: &WorkCase<'_>) -> Result<(), Fail> {
-    let says = [BEGUN[0], BEGUN[1], BEGUN[2], said(case.first, case.reply)];
+    let says = [
+        BEGUN[0],
+        BEGUN[1],
+        BEGUN[2],
+        from_id(case.first, case.reply),
+    ];
     let talked = Case {
         password: b"",
         says: &says,
