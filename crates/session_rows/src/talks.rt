@@ -161,7 +161,7 @@ fn read<L: Link>(session: &mut Session<L>) -> Report
     let mut rows = 0;
     'rows: for _ in 0..100 {
         match session.next_row() {
-            Ok(Some(row)) => rows += u32::from(is_three(&row)),
+            Ok(Some(row)) => rows = u32::from(is_three(&row)).saturating_add(rows),
             Ok(None) => return Report { ending: WELL, rows },
             Err(fault) => return at(&fault, rows),
         }
