@@ -1,0 +1,11 @@
+pub mod Answering
+pub mod Counting
+pub mod Exact
+pub mod LoggingIn
+pub mod OneNext
+pub mod Querying
+pub mod Receipts
+pub mod Running
+pub mod Sending
+pub mod Skimming
+pub mod Within

@@ -1,0 +1,231 @@
+-- How a query is led, sent and described.
+use Rattle.std.proofs.Common.{◌≡◌, ◌<◌, ◌≤◌, ◌+◌, ◌-◌, ◌==◌, ◌&&◌, nat_le, nat_lt, ℕ, suc, Bool, true, false, if◌then◌else◌, List, [], ◌∷◌, ◌++◌, length, map, replicate, refl, sym, ◌∙◌, ap, subst, inl, inr, ◌⊎◌, ◌≢◌, append_assoc, arith, Option, Some, None, option_map, Result, Ok, Err, OnOk, length-append}
+use Rattle.std.specs.Prelude.{IfErr, option_and_then}
+use Rattle.std.proofs.lemmas.Bool.{ne_eqb}
+use Rattle.std.proofs.lemmas.Bool.Decides.{nat_tests}
+use Rattle.std.proofs.lemmas.List.{append-nil, map-append}
+use Rattle.link_traits.specs.declared.link.Link.{Ghosts}
+use Rattle.my_packets.specs.Lenenc.{lenenc_of}
+use Rattle.result_rows.specs.Definition.{is_definition, column_count}
+use Rattle.result_rows.specs.Reading.{Reading, Further, definition, row, end, refused, garbled, counted, further_of, after, definition_if, end_if, refused_if, row_if, row_of}
+use Rattle.result_rows.specs.Reply.{is_ok_packet, is_eof_packet, refusal_of, reply_of}
+use Rattle.result_rows.specs.Row.{Cell, cells_of}
+use Rattle.result_rows.specs.ResultSet.{taken}
+use Rattle.result_rows.specs.declared.refusal.Refusal.{Refusal}
+use Rattle.result_rows.specs.RowCells.{row_cells}
+use Rattle.result_rows.specs.Turns.{IsTurn}
+use Rattle.result_rows.specs.declared.row.Row.{Row}
+use Rattle.result_rows.specs.declared.reader.Turn.{Turn}
+use Rattle.result_rows.specs.declared.reader.Turn.TheVariants.{Row as IsRow}
+use Rattle.result_rows.specs.declared.reader.Reply.{Reply}
+use Rattle.result_rows.specs.declared.reader.Reply.TheVariants.{Done, Refused as IsRefused, Columns}
+use Rattle.sql_statements.specs.Form.{query_form}
+use Rattle.sql_statements.specs.Text.{query_text}
+use Rattle.sql_statements.specs.declared.command.Command.TheVariants.{Use}
+use Rattle.sql_statements.specs.declared.form.Form.{Form}
+use Rattle.sql_statements.specs.declared.query.Query.{Query}
+use Rattle.sql_statements.specs.declared.query.Query.TheVariants.{CreateTable, CreateView, CreateProcedure, CreateFunction, CreateTrigger}
+use Rattle.my_session.proofs.Running.{leads_on, leads_said, leads_heard}
+use Rattle.my_session.specs.Awaited.{Awaited, count, further}
+use Rattle.my_session.specs.Channel.{ChannelView, channel_wire}
+use Rattle.my_session.specs.Halt.{Halts, Unsaid, Stops, at_message, at_payload}
+use Rattle.my_session.specs.Heard.{HasColumns, HearsReply, HearsDefinition, IsRowOf}
+use Rattle.my_session.specs.Lead.{lead_of}
+use Rattle.my_session.specs.Session.{Runs, rows_of}
+use Rattle.my_session.specs.Statements.{IsRun, RunAwaits, RunSends, IsLed, LeadAwaits, LeadSends, IsAsked, IsDescribed, QueryAwaits, a_lead, a_count, a_definition, QuerySends, the_lead, the_query, query_payload}
+use Rattle.my_session.specs.Wire.{Wire, Step, commands, hears, Leads, ends, Takes, behind_sent}
+use Rattle.my_session.specs.declared.fault.SessionFault.{SessionFault}
+
+-- ---- the lead
+
+led_by : (query : Query) (schema : List ℕ) (steps : List Step) → lead_of query ≡ Some schema → IsRun (Use schema) steps → IsLed query steps
+led_by (CreateTable own name) schema steps is run = let same : schema ≡ own = cc in subst (λ (s : List ℕ). IsRun (Use s) steps) same run
+led_by (CreateView own name) schema steps is run = let same : schema ≡ own = cc in subst (λ (s : List ℕ). IsRun (Use s) steps) same run
+led_by (CreateProcedure own name) schema steps is run = let same : schema ≡ own = cc in subst (λ (s : List ℕ). IsRun (Use s) steps) same run
+led_by (CreateFunction own name) schema steps is run = let same : schema ≡ own = cc in subst (λ (s : List ℕ). IsRun (Use s) steps) same run
+led_by (CreateTrigger own name) schema steps is run = let same : schema ≡ own = cc in subst (λ (s : List ℕ). IsRun (Use s) steps) same run
+led_by query schema steps is run = absurd (cc)
+
+awaits_by : (query : Query) (schema : List ℕ) (steps : List Step) (awaited : Awaited) → lead_of query ≡ Some schema → RunAwaits (Use schema) steps awaited → LeadAwaits query steps awaited
+awaits_by (CreateTable own name) schema steps awaited is run = let same : schema ≡ own = cc in subst (λ (s : List ℕ). RunAwaits (Use s) steps awaited) same run
+awaits_by (CreateView own name) schema steps awaited is run = let same : schema ≡ own = cc in subst (λ (s : List ℕ). RunAwaits (Use s) steps awaited) same run
+awaits_by (CreateProcedure own name) schema steps awaited is run = let same : schema ≡ own = cc in subst (λ (s : List ℕ). RunAwaits (Use s) steps awaited) same run
+awaits_by (CreateFunction own name) schema steps awaited is run = let same : schema ≡ own = cc in subst (λ (s : List ℕ). RunAwaits (Use s) steps awaited) same run
+awaits_by (CreateTrigger own name) schema steps awaited is run = let same : schema ≡ own = cc in subst (λ (s : List ℕ). RunAwaits (Use s) steps awaited) same run
+awaits_by query schema steps awaited is run = absurd (cc)
+
+sends_by : (query : Query) (schema : List ℕ) (steps : List Step) (payload : List ℕ) → lead_of query ≡ Some schema → RunSends (Use schema) steps payload → LeadSends query steps payload
+sends_by (CreateTable own name) schema steps payload is run = let same : schema ≡ own = cc in subst (λ (s : List ℕ). RunSends (Use s) steps payload) same run
+sends_by (CreateView own name) schema steps payload is run = let same : schema ≡ own = cc in subst (λ (s : List ℕ). RunSends (Use s) steps payload) same run
+sends_by (CreateProcedure own name) schema steps payload is run = let same : schema ≡ own = cc in subst (λ (s : List ℕ). RunSends (Use s) steps payload) same run
+sends_by (CreateFunction own name) schema steps payload is run = let same : schema ≡ own = cc in subst (λ (s : List ℕ). RunSends (Use s) steps payload) same run
+sends_by (CreateTrigger own name) schema steps payload is run = let same : schema ≡ own = cc in subst (λ (s : List ℕ). RunSends (Use s) steps payload) same run
+sends_by query schema steps payload is run = absurd (cc)
+
+led_none : (query : Query) → lead_of query ≡ None → IsLed query []
+led_none (CreateTable own name) is = absurd (cc)
+led_none (CreateView own name) is = absurd (cc)
+led_none (CreateProcedure own name) is = absurd (cc)
+led_none (CreateFunction own name) is = absurd (cc)
+led_none (CreateTrigger own name) is = absurd (cc)
+led_none query is = refl
+
+pub takes_no_lead : (query : Query) (wire : Wire) → lead_of query ≡ None → Takes (IsLed query) wire wire
+takes_no_lead query wire is = record { steps = []; so = led_none query is; leads = ends }
+
+takes_lead : (query : Query) (schema : List ℕ) (old new : Wire) → lead_of query ≡ Some schema → Takes (IsRun (Use schema)) old new → Takes (IsLed query) old new
+takes_lead query schema old new is run = record { steps = run.steps; so = led_by query schema run.steps is run.so; leads = run.leads }
+
+pub led : (query : Query) (schema part : List ℕ) (old new : Wire) (result : Result (Unit {0}) SessionFault) → lead_of query ≡ Some schema → part ≡ schema → Runs (Use part) old result new → OnOk result (Takes (IsLed query) old new)
+led query schema part old new (Ok finished) is same runs = takes_lead query part old new (is ∙ ap (λ (s : List ℕ). Some s) (sym same)) runs
+led query schema part old new (Err fault) is same runs = tt
+
+stops_lead : (query : Query) (schema : List ℕ) (old new : Wire) (fault : SessionFault) → lead_of query ≡ Some schema → Stops (RunAwaits (Use schema)) (RunSends (Use schema)) old fault new → Stops (LeadAwaits query) (LeadSends query) old fault new
+stops_lead query schema old new fault is (at_message {steps = steps} {awaited = awaited} awaits leads halts) = at_message (awaits_by query schema steps awaited is awaits) leads halts
+stops_lead query schema old new fault is (at_payload {steps = steps} {payload = payload} sends leads unsaid) = at_payload (sends_by query schema steps payload is sends) leads unsaid
+
+pub not_led : (query : Query) (schema part : List ℕ) (old new : Wire) (result : Result (Unit {0}) SessionFault) → lead_of query ≡ Some schema → part ≡ schema → Runs (Use part) old result new → IfErr result (λ fault. Stops (LeadAwaits query) (LeadSends query) old fault new)
+not_led query schema part old new (Ok finished) is same runs = tt
+not_led query schema part old new (Err fault) is same runs = stops_lead query part old new fault (is ∙ ap (λ (s : List ℕ). Some s) (sym same)) runs
+
+-- ---- the definitions
+
+-- before the rows there are no others than definitions and their EOF
+by_tests : (found : Bool) → (definition_if found ≡ definition) ⊎ (definition_if found ≡ garbled)
+by_tests true = inl refl
+by_tests false = inr refl
+
+awaited_by : (none one eof is : Bool) (other : Further) → none ≡ false → ((if none then other else (if one then definition_if eof else definition_if is)) ≡ definition) ⊎ ((if none then other else (if one then definition_if eof else definition_if is)) ≡ garbled)
+awaited_by true one eof is other not = absurd (cc)
+awaited_by false true eof is other not = by_tests eof
+awaited_by false false eof is other not = by_tests is
+
+pub awaits_definition : (reading : Reading) (payload : List ℕ) → 0 < reading.awaited → (further_of reading payload ≡ definition) ⊎ (further_of reading payload ≡ garbled)
+awaits_definition reading payload some = awaited_by (reading.awaited == 0) (reading.awaited == 1) (is_eof_packet payload) (is_definition payload) (row_of reading.columns payload) (let other : reading.awaited ≢ 0 = omega arith in ne_eqb reading.awaited 0 other)
+
+more_turns : (reading : Reading) (others : List (List ℕ)) (message : List ℕ) → taken reading others ≡ replicate (length others) definition → further_of (record reading { awaited = reading.awaited - length others }) message ≡ definition → taken reading (others ++ message ∷ []) ≡ replicate (length others + 1) definition
+more_turns reading [] message turns is =
+    let same : reading.awaited - 0 ≡ reading.awaited = omega arith in
+    ap (λ (f : Further). f ∷ []) (ap (λ (n : ℕ). further_of (record reading { awaited = n }) message) (sym same) ∙ is)
+more_turns reading (other ∷ others) message turns is =
+    let first : further_of reading other ≡ definition = cc in
+    let others_are : taken (after reading (further_of reading other)) others ≡ replicate (length others) definition = cc in
+    let later : taken (record reading { awaited = reading.awaited - 1 }) others ≡ replicate (length others) definition = ap (λ (f : Further). taken (after reading f) others) (sym first) ∙ others_are in
+    let at : reading.awaited - 1 - length others ≡ reading.awaited - suc (length others) = omega arith in
+    let whole : taken (record reading { awaited = reading.awaited - 1 }) (others ++ message ∷ []) ≡ replicate (length others + 1) definition = more_turns (record reading { awaited = reading.awaited - 1 }) others message later (ap (λ (n : ℕ). further_of (record reading { awaited = n }) message) at ∙ is) in
+    let size : suc (length others + 1) ≡ suc (length others) + 1 = omega arith in
+    ap (λ (f : Further). f ∷ taken (after reading f) (others ++ message ∷ [])) first ∙ ap (λ (l : List Further). definition ∷ l) whole ∙ ap (λ (n : ℕ). replicate n definition) size
+
+module _ (query : Query) (start old new : Wire) where
+  pub described_first : (columns : ℕ) → Takes (IsAsked query) start old → HearsReply (Some (Columns columns)) old new → Takes (λ steps. IsDescribed query steps (counted columns)) start new
+  described_first columns takes heard = record {
+    steps = takes.steps ++ hears heard.message ∷ [];
+    so = record {
+      before = takes.steps;
+      asked = takes.so;
+      first = heard.message;
+      others = [];
+      columns = columns;
+      reply = heard.reply_is;
+      turns = refl;
+      reading_is = let same : columns + 1 ≡ columns + 1 - 0 = omega arith in ap (λ (n : ℕ). let r : Reading = record { columns = columns; awaited = n } in r) same;
+      steps_are = refl;
+    };
+    leads = leads_on takes.steps (hears heard.message ∷ []) start old new takes.leads (leads_heard heard.message old new heard.heard);
+  }
+
+  module _ (reading : Reading) (takes : Takes (λ steps. IsDescribed query steps reading) start old) where
+    pub described_next : HearsDefinition reading old new → Takes (λ steps. IsDescribed query steps (record reading { awaited = reading.awaited - 1 })) start new
+    described_next heard =
+        let so : IsDescribed query takes.steps reading = takes.so in
+        let size : length (so.others ++ heard.message ∷ []) ≡ length so.others + 1 = length-append so.others (heard.message ∷ []) in
+        let here : (let r : Reading = record { columns = so.columns; awaited = so.columns + 1 - length so.others } in r) ≡ reading = sym so.reading_is in
+        let left : so.columns + 1 - length so.others - 1 ≡ so.columns + 1 - length (so.others ++ heard.message ∷ []) = omega arith in
+        record {
+          steps = takes.steps ++ hears heard.message ∷ [];
+          so = record {
+            before = so.before;
+            asked = so.asked;
+            first = so.first;
+            others = so.others ++ heard.message ∷ [];
+            columns = so.columns;
+            reply = so.reply;
+            turns = more_turns (counted so.columns) so.others heard.message so.turns (ap (λ (r : Reading). further_of r heard.message) here ∙ heard.is) ∙ ap (λ (n : ℕ). replicate n definition) (sym size);
+            reading_is = ap (λ (r : Reading). record r { awaited = r.awaited - 1 }) so.reading_is ∙ ap (λ (n : ℕ). let r : Reading = record { columns = so.columns; awaited = n } in r) left;
+            steps_are =
+                ap (λ (l : List Step). l ++ hears heard.message ∷ []) so.steps_are
+                ∙ append_assoc so.before (hears so.first ∷ map (λ (message : List ℕ). hears message) so.others) (hears heard.message ∷ [])
+                ∙ ap (λ (l : List Step). so.before ++ hears so.first ∷ l) (sym (map-append (λ (message : List ℕ). hears message) so.others (heard.message ∷ [])));
+          };
+          leads = leads_on takes.steps (hears heard.message ∷ []) start old new takes.leads (leads_heard heard.message old new heard.heard);
+        }
+
+    pub definition_halts : (form : Form) (fault : SessionFault) → form ≡ query_form query → Halts (further form reading) old fault new → Stops (QueryAwaits query) (QuerySends query) start fault new
+    definition_halts form fault form_is halts = at_message (a_definition takes.so) takes.leads (subst (λ (f : Form). Halts (further f reading) old fault new) form_is halts)
+
+  pub count_halts : (form : Form) (fault : SessionFault) → form ≡ query_form query → Takes (IsAsked query) start old → Halts (count form) old fault new → Stops (QueryAwaits query) (QuerySends query) start fault new
+  count_halts form fault form_is takes halts = at_message (a_count takes.so) takes.leads (subst (λ (f : Form). Halts (count f) old fault new) form_is halts)
+
+  pub query_unsaid : (fault : SessionFault) → Takes (IsLed query) start old → Unsaid (query_payload (query_text query)) old fault new → Stops (QueryAwaits query) (QuerySends query) start fault new
+  query_unsaid fault takes unsaid = at_payload (the_query takes.so refl) takes.leads unsaid
+
+  pub query_said : Takes (IsLed query) start old → new ≡ behind_sent 0 (query_payload (query_text query)) old → Takes (IsAsked query) start new
+  query_said takes said = record {
+    steps = takes.steps ++ commands (query_payload (query_text query)) ∷ [];
+    so = record { before = takes.steps; led = takes.so; steps_are = refl };
+    leads = leads_on takes.steps (commands (query_payload (query_text query)) ∷ []) start old new takes.leads (leads_said (query_payload (query_text query)) old new said);
+  }
+
+pub lead_stops : (query : Query) (old new : Wire) (fault : SessionFault) → Stops (LeadAwaits query) (LeadSends query) old fault new → Stops (QueryAwaits query) (QuerySends query) old fault new
+lead_stops query old new fault (at_message awaits leads halts) = at_message (a_lead awaits) leads halts
+lead_stops query old new fault (at_payload sends leads unsaid) = at_payload (the_lead sends) leads unsaid
+
+-- ---- the rows
+
+-- what the tests of a message in the place of a row tell
+row_by : (ends refuses eof : Bool) (refusal : Option Refusal) (found : Option (List Cell)) (cells : List Cell) → (if ends then end_if eof else (if refuses then refused_if refusal else row_if found)) ≡ row cells → found ≡ Some cells
+row_by true refuses true refusal found cells is = absurd (cc)
+row_by true refuses false refusal found cells is = absurd (cc)
+row_by false true eof None found cells is = absurd (cc)
+row_by false true eof (Some refusal) found cells is = absurd (cc)
+row_by false false eof refusal None cells is = absurd (cc)
+row_by false false eof refusal (Some found) cells is = cc
+
+definition_by : (ends refuses eof : Bool) (refusal : Option Refusal) (found : Option (List Cell)) → (if ends then end_if eof else (if refuses then refused_if refusal else row_if found)) ≡ definition → ⊥
+definition_by true refuses true refusal found is = cc
+definition_by true refuses false refusal found is = cc
+definition_by false true eof None found is = cc
+definition_by false true eof (Some refusal) found is = cc
+definition_by false false eof refusal None is = cc
+definition_by false false eof refusal (Some found) is = cc
+
+cells_in_place : (columns : ℕ) (message : List ℕ) (cells : List Cell) → row_of columns message ≡ row cells → cells_of columns message ≡ Some cells
+cells_in_place columns [] cells is = absurd (cc)
+cells_in_place columns (byte ∷ bytes) cells is = row_by (byte == 254 && nat_lt (length bytes) 8) (byte == 255) (is_eof_packet (byte ∷ bytes)) (refusal_of (byte ∷ bytes)) (cells_of columns (byte ∷ bytes)) cells is
+
+row_no_definition : (columns : ℕ) (message : List ℕ) → row_of columns message ≡ definition → ⊥
+row_no_definition columns [] is = cc
+row_no_definition columns (byte ∷ bytes) is = definition_by (byte == 254 && nat_lt (length bytes) 8) (byte == 255) (is_eof_packet (byte ∷ bytes)) (refusal_of (byte ∷ bytes)) (cells_of columns (byte ∷ bytes)) is
+
+-- a message in the place of a row
+in_place : (reading : Reading) (message : List ℕ) → reading.awaited ≡ 0 → further_of reading message ≡ row_of reading.columns message
+in_place reading message none = ap (λ (n : ℕ). further_of (record { columns = reading.columns; awaited = n }) message) none
+
+is_row_of : (reading : Reading) (message : List ℕ) (cells : List Cell) → reading.awaited ≡ 0 → further_of reading message ≡ row cells → IsRowOf reading message
+is_row_of reading message cells none is = record {
+  cells = cells;
+  cells_are = cells_in_place reading.columns message cells (sym (in_place reading message none) ∙ is);
+  is = is;
+}
+
+pub judged_row : (reading now : Reading) (message : List ℕ) (place : ℕ) (turn : Turn) (found : Row) → reading.awaited ≡ 0 → turn ≡ IsRow found → IsTurn place (Ok turn) (further_of reading message) → now ≡ after reading (further_of reading message) → IsRowOf reading message × (now ≡ reading)
+judged_row reading now message place turn found none is told behind =
+    let said : IsTurn place (Ok (IsRow found)) (further_of reading message) = subst (λ (t : Turn). IsTurn place (Ok t) (further_of reading message)) is told in
+    (is_row_of reading message (row_cells found) none said.0, behind ∙ ap (λ (f : Further). after reading f) said.0)
+
+pub rows_no_definition : (reading : Reading) (message : List ℕ) → reading.awaited ≡ 0 → further_of reading message ≡ definition → ⊥
+rows_no_definition reading message none is = row_no_definition reading.columns message (sym (in_place reading message none) ∙ is)
+
+-- so many definitions and their EOF were read
+pub at_rows : (reading : Reading) (columns : ℕ) → reading.columns ≡ columns → reading.awaited ≡ 0 → reading ≡ rows_of columns
+at_rows reading columns is none = ap (λ (n : ℕ). record reading { columns = n }) is ∙ ap (λ (n : ℕ). let r : Reading = record { columns = columns; awaited = n } in r) none

@@ -1,0 +1,167 @@
+-- A message that is taken off a link piece by piece.
+use Rattle.std.proofs.Common.{◌≡◌, ◌≤◌, ◌<◌, ◌+◌, ◌-◌, ◌*◌, ◌^◌, ◌↔◌, ℕ, Bool, true, false, List, [], ◌++◌, length, take, refl, sym, ◌∙◌, ap, subst, inl, inr, arith, append_assoc, length-append, Result, Ok, Err, OnOk, OnErr}
+use Rattle.std.proofs.lemmas.List.{append-nil}
+use Rattle.link_traits.specs.Link.{stream}
+use Rattle.link_traits.specs.declared.link.Link.{Ghosts}
+use Rattle.my_packets.proofs.Fronts.{one_front}
+use Rattle.my_packets.proofs.Packets.{packets_length}
+use Rattle.my_packets.specs.Begins.{IsWrong}
+use Rattle.my_packets.specs.Front.{HasMessage, IsPart, Wants}
+use Rattle.my_packets.specs.Packet.{packets, packet_count, id_behind}
+use Rattle.my_packets.specs.Steps.{Passes, Steps}
+use Rattle.my_packets.specs.Unread.{Unread}
+use Rattle.my_packets.specs.declared.frames.FrameFault.{FrameFault}
+use Rattle.my_packets.specs.declared.frames.FrameFault.TheVariants.{BadSequence, TooLong as FrameTooLong}
+use Rattle.my_session.proofs.Exact.{exact_at_first, exact_behind}
+use Rattle.my_session.proofs.Within.{wrong_within, full_within}
+use Rattle.my_session.specs.Channel.{wire_at}
+use Rattle.my_session.specs.Halt.{Misheard, IsFull}
+use Rattle.my_session.specs.Receiving.{Fetches, Gathers, IsExact, Unfetched, Unsettled}
+use Rattle.my_session.specs.Wire.{Wire, Hears, within}
+use Rattle.my_session.specs.declared.fault.SessionFault.{SessionFault}
+use Rattle.my_session.specs.declared.fault.SessionFault.TheVariants.{Link, Refused, Garbled, NotProtocol10, PluginUnsupported, TooLong, StreamTooLong, OutOfMemory}
+
+-- bytes of which none are missing are no part of a message
+settled_is_no_part : (limit id more : ℕ) (bytes : List ℕ) → Wants limit id bytes 0 → IsPart limit id more bytes → ⊥
+settled_is_no_part limit id more bytes wants part =
+    let front = one_front limit id bytes in
+    elim (wants.settled refl) [
+      | inl whole ↦ front.message_is_whole more whole.0 whole.1 whole.2 part
+      | inr wrong ↦ elim wrong [
+        | inl disorder ↦ front.wrong_is_whole disorder.0 disorder.1 more disorder.2 part
+        | inr long ↦ front.long_is_whole long.0 more long.1 part
+      ]
+    ]
+
+pub settled_waits_not : (old new : Unread) (is_whole : Bool) → Wants old.limit old.id old.bytes 0 → is_whole ≡ false → Steps old (Ok is_whole) new → ⊥
+settled_waits_not old new true wants is steps = absurd (cc)
+settled_waits_not old new false wants is waits = settled_is_no_part old.limit old.id waits.more old.bytes wants waits.part
+
+module _ {L : Type 0} (of : Ghosts L) where
+  pub gathers_none : (link : L) (frames : Unread) (taken : ℕ) → frames.bytes ≡ [] → Gathers of link link frames frames taken taken
+  gathers_none link frames taken none =
+      let size : length frames.bytes ≡ 0 = ap (λ (l : List ℕ). length l) none in
+      record {
+        tells = (λ t. t, λ t. t);
+        later = omega arith;
+        id = refl;
+        place = refl;
+        limit = refl;
+        taken = omega arith;
+        exact = exact_at_first frames.limit frames.id frames.bytes none;
+        sent = λ t. refl;
+        stream = λ t. ap (λ (l : List ℕ). l ++ stream (of.told link)) none;
+      }
+
+  pub gathers_more : (start link next : L) (first frames now : Unread) (wants taken_first taken taken_now : ℕ) → Gathers of start link first frames taken_first taken → 0 < wants → Wants frames.limit frames.id frames.bytes wants
+      → (of.tells link ↔ of.tells next) → of.faults link ≤ of.faults next → (of.tells link → (of.told next).sent ≡ (of.told link).sent) → Fetches of wants link next frames now taken taken_now → Gathers of start next first now taken_first taken_now
+  gathers_more start link next first frames now wants taken_first taken taken_now gathers some wanted tells later sent fetches =
+      let same = fetches.frames in
+      let bytes_are : now.bytes ≡ frames.bytes ++ fetches.piece = ap (λ (u : Unread). u.bytes) same in
+      let all = length-append frames.bytes fetches.piece in
+      let size : length now.bytes ≡ length (frames.bytes ++ fetches.piece) = ap (λ (l : List ℕ). length l) bytes_are in
+      let before = gathers.taken in
+      let after = fetches.taken in
+      let once = gathers.later in
+      record {
+        tells = (λ t. tells.0 (gathers.tells.0 t), λ t. gathers.tells.1 (tells.1 t));
+        later = omega arith;
+        id = ap (λ (u : Unread). u.id) same ∙ gathers.id;
+        place = ap (λ (u : Unread). u.place) same ∙ gathers.place;
+        limit = ap (λ (u : Unread). u.limit) same ∙ gathers.limit;
+        taken = omega arith;
+        exact =
+            subst (λ (l : List ℕ). IsExact first.limit first.id l) (sym bytes_are) (
+            subst (λ (n : ℕ). IsExact n first.id (frames.bytes ++ fetches.piece)) gathers.limit (
+            subst (λ (n : ℕ). IsExact frames.limit n (frames.bytes ++ fetches.piece)) gathers.id (
+            exact_behind frames.limit frames.id wants frames.bytes fetches.piece (wanted.part some) fetches.fits)));
+        sent = λ t. sent (gathers.tells.0 t) ∙ gathers.sent t;
+        stream = λ t. ap (λ (l : List ℕ). l ++ stream (of.told next)) bytes_are ∙ append_assoc frames.bytes fetches.piece (stream (of.told next)) ∙ ap (λ (l : List ℕ). frames.bytes ++ l) (sym (fetches.stream (gathers.tells.0 t))) ∙ gathers.stream t;
+      }
+
+  module _ (start link : L) (first frames : Unread) (taken_first taken : ℕ) (gathers : Gathers of start link first frames taken_first taken) (limited : first.limit ≡ 67108864) (inside : taken ≤ 2 ^ 62) where
+    ends_exactly : (new : Unread) → Passes frames new → new.bytes ≡ []
+    ends_exactly new passes =
+        gathers.exact.ends new.message new.bytes (subst (λ (n : ℕ). HasMessage n first.id new.message frames.bytes new.bytes) gathers.limit (subst (λ (n : ℕ). HasMessage frames.limit n new.message frames.bytes new.bytes) gathers.id passes.message))
+
+    pub gathered_all : (new : Unread) → Passes frames new → new.bytes ≡ []
+    gathered_all new passes = ends_exactly new passes
+
+    whole_size : (new : Unread) → Passes frames new → length frames.bytes ≡ length new.message + 4 * packet_count (length new.message)
+    whole_size new passes =
+        let size = packets_length frames.id new.message in
+        let bytes_are : frames.bytes ≡ packets frames.id new.message = passes.message.bytes_are ∙ ap (λ (l : List ℕ). packets frames.id new.message ++ l) (ends_exactly new passes) ∙ append-nil (packets frames.id new.message) in
+        let same : length frames.bytes ≡ length (packets frames.id new.message) = ap (λ (l : List ℕ). length l) bytes_are in
+        omega arith
+
+    pub gathered_place : (result : Result (Unit {0}) SessionFault) (new : Unread) → OnOk result (Passes frames new) → OnErr result (new ≡ frames) → first.place ≤ taken_first → new.place ≤ taken
+    gathered_place (Ok done) new passes same below =
+        let size = whole_size new passes in
+        let place = passes.place in
+        let at = gathers.place in
+        let all = gathers.taken in
+        omega arith
+    gathered_place (Err fault) new passes same below =
+        let place : new.place ≡ frames.place = ap (λ (u : Unread). u.place) same in
+        let at = gathers.place in
+        let all = gathers.taken in
+        omega arith
+
+    pub gathered_hears : (new : Unread) → Passes frames new → of.tells start → Hears new.message (wire_at of start taken_first first.id) (wire_at of link taken new.id)
+    gathered_hears new passes t =
+        let size = whole_size new passes in
+        let all = gathers.taken in
+        let short = passes.message.short in
+        let limit = gathers.limit in
+        let bytes_are : frames.bytes ≡ packets frames.id new.message = passes.message.bytes_are ∙ ap (λ (l : List ℕ). packets frames.id new.message ++ l) (ends_exactly new passes) ∙ append-nil (packets frames.id new.message) in
+        record {
+          short = omega arith;
+          stream = sym (gathers.stream t) ∙ ap (λ (l : List ℕ). l ++ stream (of.told link)) (bytes_are ∙ ap (λ (n : ℕ). packets n new.message) gathers.id);
+          place = omega arith;
+          within = inside;
+          id = passes.id ∙ ap (λ (n : ℕ). id_behind (packet_count (length new.message)) n) gathers.id;
+          sent = gathers.sent t;
+        }
+
+    wrong_here : (fault : FrameFault) → IsWrong frames.limit frames.id frames.bytes fault → of.tells start → IsWrong 67108864 first.id (within (wire_at of start taken_first first.id)) fault
+    wrong_here fault wrong t =
+        let all = gathers.taken in
+        wrong_within first.id (2 ^ 62 - taken_first) frames.bytes (stream (of.told link)) (stream (of.told start)) fault (omega arith) (gathers.stream t)
+        (subst (λ (n : ℕ). IsWrong n first.id frames.bytes fault) (gathers.limit ∙ limited) (subst (λ (n : ℕ). IsWrong frames.limit n frames.bytes fault) gathers.id wrong))
+
+    pub gathered_wrong : (fault : SessionFault) (id : ℕ) → Unsettled frames taken_first fault → of.tells start → Misheard (wire_at of start taken_first first.id) fault (wire_at of link taken id)
+    gathered_wrong Link id why t = absurd why
+    gathered_wrong (Refused form refusal) id why t = absurd why
+    gathered_wrong (Garbled place) id why t = record {
+      place_is = why.place_is;
+      order = record { found = why.found; wanted = why.wanted; wrong = wrong_here (BadSequence why.found why.wanted) why.wrong t };
+      silent = gathers.sent t;
+    }
+    gathered_wrong (NotProtocol10 version) id why t = absurd why
+    gathered_wrong (PluginUnsupported name) id why t = absurd why
+    gathered_wrong (TooLong size) id why t = (wrong_here (FrameTooLong size) why t, gathers.sent t)
+    gathered_wrong StreamTooLong id why t = absurd why
+    gathered_wrong OutOfMemory id why t = absurd why
+
+    pub gathered_part : (fault : SessionFault) (wants id taken_now : ℕ) (next : L) → 0 < wants → Wants frames.limit frames.id frames.bytes wants → (of.tells link → (of.told next).sent ≡ (of.told link).sent) → Unfetched taken fault
+        → of.tells start → Misheard (wire_at of start taken_first first.id) fault (wire_at of next taken_now id)
+    gathered_part Link wants id taken_now next some wanted sent why t = sent (gathers.tells.0 t) ∙ gathers.sent t
+    gathered_part (Refused form refusal) wants id taken_now next some wanted sent why t = absurd why
+    gathered_part (Garbled place) wants id taken_now next some wanted sent why t = absurd why
+    gathered_part (NotProtocol10 version) wants id taken_now next some wanted sent why t = absurd why
+    gathered_part (PluginUnsupported name) wants id taken_now next some wanted sent why t = absurd why
+    gathered_part (TooLong size) wants id taken_now next some wanted sent why t = absurd why
+    gathered_part StreamTooLong wants id taken_now next some wanted sent why t =
+        let all = gathers.taken in
+        let whole : frames.bytes ≡ take (2 ^ 62 - taken_first) (stream (of.told start)) = full_within (2 ^ 62 - taken_first) frames.bytes (stream (of.told link)) (stream (of.told start)) (omega arith) (gathers.stream t) in
+        let size : length (take (2 ^ 62 - taken_first) (stream (of.told start))) ≡ length frames.bytes = ap (λ (l : List ℕ). length l) (sym whole) in (
+          record {
+            more = wants;
+            part =
+                subst (λ (l : List ℕ). IsPart 67108864 first.id wants l) whole (
+                subst (λ (n : ℕ). IsPart n first.id wants frames.bytes) (gathers.limit ∙ limited) (subst (λ (n : ℕ). IsPart frames.limit n wants frames.bytes) gathers.id (wanted.part some)));
+            full = omega arith;
+          },
+          sent (gathers.tells.0 t) ∙ gathers.sent t,
+        )
+    gathered_part OutOfMemory wants id taken_now next some wanted sent why t = sent (gathers.tells.0 t) ∙ gathers.sent t

@@ -1,0 +1,164 @@
+-- A message that is taken off a link piece by piece, of which the front is kept.
+use Rattle.std.proofs.Common.{◌≡◌, ◌≤◌, ◌<◌, ◌+◌, ◌-◌, ◌*◌, ◌/◌, ◌%◌, ◌^◌, ◌↔◌, ℕ, List, [], ◌++◌, length, take, refl, sym, ◌∙◌, ap, subst, arith, append_assoc, length-append, Option, Some, None, Result, Ok, Err}
+use Rattle.std.proofs.lemmas.List.{append-nil, length-take-le, take-append-le}
+use Rattle.link_traits.specs.Link.{Told, Receives, stream, joined}
+use Rattle.link_traits.specs.declared.link.Link.{Ghosts}
+use Rattle.my_packets.proofs.Packets.{packets_length}
+use Rattle.my_packets.specs.Begins.{IsWrong}
+use Rattle.my_packets.specs.Front.{HasMessage, IsPart, Wants}
+use Rattle.my_packets.specs.Packet.{packets, packet_count, id_behind}
+use Rattle.my_packets.specs.Skimmed.{Skimmed}
+use Rattle.my_packets.specs.Skims.{Skims, IsAt, IsRead, wanted, Feeds, wanted_at, fault_of, fault_at}
+use Rattle.my_packets.specs.declared.frames.FrameFault.{FrameFault}
+use Rattle.my_packets.specs.declared.frames.FrameFault.TheVariants.{BadSequence, TooLong as FrameTooLong}
+use Rattle.my_packets.specs.declared.skim.Stage.{Stage}
+use Rattle.my_packets.specs.declared.skim.Stage.TheVariants.{Header, Packet, Whole, Wrong}
+use Rattle.my_session.proofs.Within.{wrong_within, full_within}
+use Rattle.my_session.specs.Channel.{wire_at, packets_within, Skimmed as Skimming}
+use Rattle.my_session.specs.Halt.{Misheard, IsFull}
+use Rattle.my_session.specs.Receiving.{Sips, Spoils, Drains, Unsipped}
+use Rattle.my_session.specs.Wire.{Wire, Hears, within}
+use Rattle.my_session.specs.declared.fault.SessionFault.{SessionFault}
+use Rattle.my_session.specs.declared.fault.SessionFault.TheVariants.{Link, Refused, Garbled, NotProtocol10, PluginUnsupported, TooLong, StreamTooLong, OutOfMemory}
+
+-- a skim that wants nothing, and found nothing wrong, has read the message
+read_at : (seq limit : ℕ) (fed : List ℕ) (skim : Skimmed) (stage : Stage) → IsAt seq limit fed skim stage → wanted_at stage skim.header ≡ 0 → fault_at stage ≡ None → IsRead seq limit fed skim
+read_at seq limit fed skim Header at none right = let less = at.less in absurd (omega arith)
+read_at seq limit fed skim (Packet size left) at none right = let some = at.some in absurd (omega arith)
+read_at seq limit fed skim Whole at none right = at
+read_at seq limit fed skim (Wrong fault) at none right = absurd (cc)
+
+-- the packets of a message, by their bytes
+counted_by : (size count bytes : ℕ) → count ≡ size / 16777215 + 1 → bytes ≡ size + 4 * count → packets_within bytes ≡ count
+counted_by size count bytes count_is bytes_is = omega arith
+
+module _ {L : Type 0} (of : Ghosts L) where
+  -- a piece that was taken off a link
+  taken_off : (old new : L) (E : Type 0) (count : ℕ) (buffer : List ℕ) → (of.tells old → Receives {E = E} (of.told old) buffer (Ok count) (of.told new)) → of.tells old → stream (of.told old) ≡ take count buffer ++ stream (of.told new)
+  taken_off old new E count buffer received t =
+      let off = (received t).ok in
+      ap (λ (l : List ℕ). l ++ joined (of.told old).coming) off.bytes ∙ append_assoc (take count buffer) (of.told new).waiting (joined (of.told old).coming) ∙ ap (λ (c : List (List ℕ)). take count buffer ++ ((of.told new).waiting ++ joined c)) (sym off.coming)
+
+  pub sips_piece : (old new : L) (E : Type 0) (before now : Skimmed) (done : Unit {0}) (taken count : ℕ) (buffer rest : List ℕ) → (of.tells old → Receives {E = E} (of.told old) buffer (Ok count) (of.told new)) → Feeds before (take count (buffer ++ rest)) (Ok done) now → 0 < count → count ≤ length buffer
+      → Sips of old new before now taken (taken + count)
+  sips_piece old new E before now done taken count buffer rest received feeds some fits =
+      let is : take count (buffer ++ rest) ≡ take count buffer = take-append-le count buffer rest fits in
+      let size : length (take count buffer) ≡ count = length-take-le count buffer fits in
+      let same : length (take count (buffer ++ rest)) ≡ length (take count buffer) = ap (λ (l : List ℕ). length l) is in
+      record {
+        piece = take count (buffer ++ rest);
+        some = omega arith;
+        follows = feeds.follows;
+        right = feeds.stands;
+        taken = omega arith;
+        stream = λ t. taken_off old new E count buffer received t ∙ ap (λ (l : List ℕ). l ++ stream (of.told new)) (sym is);
+      }
+
+  pub spoils_piece : (old new : L) (E : Type 0) (before now : Skimmed) (fault : FrameFault) (taken count : ℕ) (buffer rest : List ℕ) → (of.tells old → Receives {E = E} (of.told old) buffer (Ok count) (of.told new)) → Feeds before (take count (buffer ++ rest)) (Err fault) now → count ≤ length buffer → taken + count ≤ 2 ^ 62
+      → Spoils of old new before taken fault
+  spoils_piece old new E before now fault taken count buffer rest received feeds fits inside =
+      let is : take count (buffer ++ rest) ≡ take count buffer = take-append-le count buffer rest fits in
+      let size : length (take count buffer) ≡ count = length-take-le count buffer fits in
+      let same : length (take count (buffer ++ rest)) ≡ length (take count buffer) = ap (λ (l : List ℕ). length l) is in
+      record {
+        piece = take count (buffer ++ rest);
+        within = omega arith;
+        wrong = feeds.wrong;
+        stream = λ t. taken_off old new E count buffer received t ∙ ap (λ (l : List ℕ). l ++ stream (of.told new)) (sym is);
+      }
+
+  pub drains_none : (link : L) (seq taken : ℕ) (skim : Skimmed) → Skims seq 67108864 [] skim → fault_of skim ≡ None → Drains of link link seq skim taken taken
+  drains_none link seq taken skim skims right = record {
+    tells = (λ t. t, λ t. t);
+    later = omega arith;
+    fed = [];
+    skims = skims;
+    right = right;
+    taken = omega arith;
+    sent = λ t. refl;
+    stream = λ t. refl;
+  }
+
+  module _ (start link : L) (seq taken_first taken : ℕ) (skim : Skimmed) (drains : Drains of start link seq skim taken_first taken) where
+    pub drains_more : (next : L) (now : Skimmed) (taken_now : ℕ) → (of.tells link ↔ of.tells next) → of.faults link ≤ of.faults next → (of.tells link → (of.told next).sent ≡ (of.told link).sent) → Sips of link next skim now taken taken_now → Drains of start next seq now taken_first taken_now
+    drains_more next now taken_now tells later sent sips =
+        let all = length-append drains.fed sips.piece in
+        let before = drains.taken in
+        let after = sips.taken in
+        let once = drains.later in
+        record {
+          tells = (λ t. tells.0 (drains.tells.0 t), λ t. drains.tells.1 (tells.1 t));
+          later = omega arith;
+          fed = drains.fed ++ sips.piece;
+          skims = sips.follows seq 67108864 drains.fed drains.skims;
+          right = sips.right;
+          taken = omega arith;
+          sent = λ t. sent (drains.tells.0 t) ∙ drains.sent t;
+          stream = λ t. append_assoc drains.fed sips.piece (stream (of.told next)) ∙ ap (λ (l : List ℕ). drains.fed ++ l) (sym (sips.stream (drains.tells.0 t))) ∙ drains.stream t;
+        }
+
+    module _ (inside : taken ≤ 2 ^ 62) where
+      module _ (wants : wanted skim ≡ 0) where
+        read : IsRead seq 67108864 drains.fed skim
+        read = read_at seq 67108864 drains.fed skim skim.stage drains.skims.at wants drains.right
+
+        fed_is : drains.fed ≡ packets seq read.message
+        fed_is = read.whole.bytes_are ∙ append-nil (packets seq read.message)
+
+        fed_size : length drains.fed ≡ length read.message + 4 * packet_count (length read.message)
+        fed_size = ap (λ (l : List ℕ). length l) fed_is ∙ packets_length seq read.message
+
+        pub drained_size : 4 ≤ taken - taken_first
+        drained_size = let size = fed_size in let all = drains.taken in omega arith
+
+        pub drained_hears : of.tells start → Skimming skim (wire_at of start taken_first seq) (wire_at of link taken (id_behind (packets_within (taken - taken_first)) seq))
+        drained_hears t =
+            let size = fed_size in
+            let all = drains.taken in
+            let counts : packets_within (taken - taken_first) ≡ packet_count (length read.message) = counted_by (length read.message) (packet_count (length read.message)) (taken - taken_first) refl (omega arith) in
+            record {
+              message = read.message;
+              heard = record {
+                short = read.whole.short;
+                stream = sym (drains.stream t) ∙ ap (λ (l : List ℕ). l ++ stream (of.told link)) fed_is;
+                place = omega arith;
+                within = inside;
+                id = ap (λ (n : ℕ). id_behind n seq) counts;
+                sent = drains.sent t;
+              };
+              skims = subst (λ (l : List ℕ). Skims seq 67108864 l skim) fed_is drains.skims;
+            }
+
+      spoilt_here : (next : L) (fault : FrameFault) → Spoils of link next skim taken fault → of.tells start → IsWrong 67108864 seq (within (wire_at of start taken_first seq)) fault
+      spoilt_here next fault spoils t =
+          let all = length-append drains.fed spoils.piece in
+          let before = drains.taken in
+          let fits = spoils.within in
+          wrong_within seq (2 ^ 62 - taken_first) (drains.fed ++ spoils.piece) (stream (of.told next)) (stream (of.told start)) fault (omega arith)
+          (append_assoc drains.fed spoils.piece (stream (of.told next)) ∙ ap (λ (l : List ℕ). drains.fed ++ l) (sym (spoils.stream (drains.tells.0 t))) ∙ drains.stream t)
+          (spoils.wrong seq 67108864 drains.fed drains.skims)
+
+      pub drained_not : (next : L) (fault : SessionFault) (wants taken_now id : ℕ) → 0 < wants → Wants 67108864 seq drains.fed wants → (of.tells link → (of.told next).sent ≡ (of.told link).sent) → Unsipped of link next skim taken taken_first fault
+          → of.tells start → Misheard (wire_at of start taken_first seq) fault (wire_at of next taken_now id)
+      drained_not next Link wants taken_now id some wanted sent why t = sent (drains.tells.0 t) ∙ drains.sent t
+      drained_not next (Refused form refusal) wants taken_now id some wanted sent why t = absurd why
+      drained_not next (Garbled place) wants taken_now id some wanted sent why t = record {
+        place_is = why.place_is;
+        order = record { found = why.found; wanted = why.wanted; wrong = spoilt_here next (BadSequence why.found why.wanted) why.spoils t };
+        silent = sent (drains.tells.0 t) ∙ drains.sent t;
+      }
+      drained_not next (NotProtocol10 version) wants taken_now id some wanted sent why t = absurd why
+      drained_not next (PluginUnsupported name) wants taken_now id some wanted sent why t = absurd why
+      drained_not next (TooLong size) wants taken_now id some wanted sent why t = (spoilt_here next (FrameTooLong size) why t, sent (drains.tells.0 t) ∙ drains.sent t)
+      drained_not next StreamTooLong wants taken_now id some wanted sent why t =
+          let all = drains.taken in
+          let whole : drains.fed ≡ take (2 ^ 62 - taken_first) (stream (of.told start)) = full_within (2 ^ 62 - taken_first) drains.fed (stream (of.told link)) (stream (of.told start)) (omega arith) (drains.stream t) in
+          let size : length (take (2 ^ 62 - taken_first) (stream (of.told start))) ≡ length drains.fed = ap (λ (l : List ℕ). length l) (sym whole) in (
+            record {
+              more = wants;
+              part = subst (λ (l : List ℕ). IsPart 67108864 seq wants l) whole (wanted.part some);
+              full = omega arith;
+            },
+            sent (drains.tells.0 t) ∙ drains.sent t,
+          )
+      drained_not next OutOfMemory wants taken_now id some wanted sent why t = absurd why

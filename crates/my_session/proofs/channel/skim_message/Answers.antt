@@ -1,0 +1,24 @@
+use Rattle.std.proofs.Common.{arith, sym, ◌∙◌}
+use Rattle.my_session.proofs.Skimming.{drains_more, drained_size, drained_hears, drained_not}
+use Rattle.my_session.proofs.channel.skim_message.Goals as goal
+
+pub returns-then-wants-eq0-clause-size : goal.returns-then-wants-eq0-clause-size
+returns-then-wants-eq0-clause-size g c =
+    drained_size g.L.Link c.args.link.now c.pieces.link c.args.id c.args.taken.now c.pieces.taken c.pieces.skim c.pieces.invariant.drains c.pieces.invariant.within (sym c.wants-wants.ensures.value ∙ c.if-wants-eq0.true)
+
+pub returns-then-wants-eq0-clause-heard : goal.returns-then-wants-eq0-clause-heard
+returns-then-wants-eq0-clause-heard g c =
+    drained_hears g.L.Link c.args.link.now c.pieces.link c.args.id c.args.taken.now c.pieces.taken c.pieces.skim c.pieces.invariant.drains c.pieces.invariant.within (sym c.wants-wants.ensures.value ∙ c.if-wants-eq0.true)
+
+pub returns-in-Err-clause-err : goal.returns-in-Err-clause-err
+returns-in-Err-clause-err g c = λ now.
+    let is = c.in-Err.ensures in
+    drained_not g.L.Link c.args.link.now c.pieces.link c.args.id c.args.taken.now c.pieces.taken c.pieces.skim c.pieces.invariant.drains c.pieces.invariant.within c.sip.new.link c.in-Err.fault c.wants-wants.result c.sip.new.taken now (omega arith) (c.wants-wants.ensures.wants c.args.id 67108864 c.pieces.invariant.drains.fed c.pieces.invariant.drains.skims) is.sent is.err
+
+pub pieces-preserved : goal.pieces-preserved
+pieces-preserved g c =
+    let is = c.in_default.ensures in
+    record {
+      drains = drains_more g.L.Link c.args.link.now c.pieces.link c.args.id c.args.taken.now c.pieces.taken c.pieces.skim c.pieces.invariant.drains c.sip.new.link c.sip.new.skim c.sip.new.taken is.tells is.counted.later is.sent is.sips;
+      within = is.within;
+    }

@@ -1,0 +1,11 @@
+use Rattle.std.proofs.Common.{refl}
+use Rattle.sql_statements.specs.declared.command.Command.TheVariants.{SetUp}
+use Rattle.my_session.specs.Channel.{channel_wire}
+use Rattle.my_session.specs.declared.fault.SessionFault.TheVariants.{OutOfMemory}
+use Rattle.my_session.proofs.Running.{run_unwritten}
+use Rattle.my_session.proofs.login.set_up.Goals as goal
+
+pub returns-then-is_err-clause-runs : goal.returns-then-is_err-clause-runs
+returns-then-is_err-clause-runs g c = λ t.
+    let wire = channel_wire g.L.Link c.args.channel.now in
+    run_unwritten SetUp wire wire OutOfMemory refl

@@ -1,0 +1,37 @@
+use Rattle.std.proofs.Common.{arith, refl, sym, subst, ap, ◌∙◌, ◌-◌}
+use Rattle.result_rows.specs.Reading.{Reading}
+use Rattle.my_session.specs.Channel.{channel_wire}
+use Rattle.my_session.specs.Statements.{IsDescribed}
+use Rattle.my_session.specs.Wire.{Takes}
+use Rattle.my_session.proofs.Querying.{definition_halts, described_next, at_rows}
+use Rattle.my_session.proofs.rows.describe.Goals as goal
+
+pub returns-in-Err-clause-err : goal.returns-in-Err-clause-err
+returns-in-Err-clause-err g c = λ start t takes.
+    let here = c.definitions.invariant in
+    definition_halts c.args.query.now start (channel_wire g.L.Link c.definitions.channel) (channel_wire g.L.Link c.hear_definition.new.channel) c.definitions.reader (here.described start t takes) c.form-form.result c.in-Err.fault c.form-form.ensures (c.in-Err.ensures.err (here.tells.0 t))
+
+pub definitions-preserved : goal.definitions-preserved
+definitions-preserved g c =
+    let here = c.definitions.invariant in
+    let is = c.in_default.ensures in
+    let once = here.later in
+    let now = is.counted.later in
+    let left = here.awaited in
+    record {
+      tells = (λ t. is.tells.0 (here.tells.0 t), λ t. here.tells.1 (is.tells.1 t));
+      later = omega arith;
+      alive = is.alive refl;
+      columns = ap (λ (r : Reading). r.columns) is.reader ∙ here.columns;
+      awaited = ap (λ (r : Reading). r.awaited) is.reader ∙ ap (λ n. n - 1) left;
+      described = λ start t takes.
+          subst (λ (r : Reading). Takes (λ steps. IsDescribed c.args.query.now steps r) start (channel_wire g.L.Link c.hear_definition.new.channel)) (sym is.reader)
+          (described_next c.args.query.now start (channel_wire g.L.Link c.definitions.channel) (channel_wire g.L.Link c.hear_definition.new.channel) c.definitions.reader (here.described start t takes) (is.heard (here.tells.0 t)));
+    }
+
+pub returns-clause-ok : goal.returns-clause-ok
+returns-clause-ok g c = λ start t takes.
+    let here = c.definitions.invariant in
+    let left = here.awaited in
+    let ended = c.definitions-test.false in
+    subst (λ (r : Reading). Takes (λ steps. IsDescribed c.args.query.now steps r) start (channel_wire g.L.Link c.definitions.channel)) (at_rows c.definitions.reader c.args.columns here.columns (omega arith)) (here.described start t takes)

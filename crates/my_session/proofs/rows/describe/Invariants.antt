@@ -1,0 +1,19 @@
+use Rattle.std.proofs.Common.{◌≡◌, ◌≤◌, ◌↔◌, false}
+use Rattle.result_rows.specs.Reading.{counted}
+use Rattle.my_session.specs.Channel.{channel_wire}
+use Rattle.my_session.specs.Statements.{IsDescribed}
+use Rattle.my_session.specs.Wire.{Wire, Takes}
+use Rattle.my_session.proofs.rows.describe.Given as goal
+
+abbrev pub invariant-definitions : goal.invariant-definitions
+invariant-definitions g l = record {
+  tells : g.L.Link.tells l.fn.channel.link ↔ g.L.Link.tells l.channel.link;
+  later : g.L.Link.faults l.fn.channel.link ≤ g.L.Link.faults l.channel.link;
+  alive : l.channel.has_failed ≡ false;
+  columns : l.reader.columns ≡ l.columns;
+  awaited : l.reader.awaited ≡ l.left;
+  described : (start : Wire) → g.L.Link.tells l.fn.channel.link → Takes (λ steps. IsDescribed l.query steps (counted l.columns)) start (channel_wire g.L.Link l.fn.channel) → Takes (λ steps. IsDescribed l.query steps l.reader) start (channel_wire g.L.Link l.channel);
+}
+
+abbrev pub decreases-definitions : goal.decreases-definitions
+decreases-definitions g l = l.left

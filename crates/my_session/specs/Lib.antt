@@ -1,0 +1,11 @@
+pub mod Wire
+pub mod Channel
+pub mod Receiving
+pub mod Awaited
+pub mod Halt
+pub mod Statements
+pub mod Login
+pub mod Heard
+pub mod Lead
+pub mod Session
+pub mod Laws

@@ -1,0 +1,155 @@
+-- A session as a caller sees it, and what its calls do.
+use Rattle.std.specs.Prelude.{ℕ, ◌≡◌, ◌≤◌, ◌↔◌, ◌⊎◌, Bool, true, false, List, [], ◌∷◌, ◌++◌, Option, Some, None, Result, Ok, Err}
+use Rattle.link_traits.specs.Cause.{Rose}
+use Rattle.link_traits.specs.Link.{stream}
+use Rattle.link_traits.specs.declared.link.Link.{Ghosts}
+use Rattle.result_rows.specs.Reading.{Reading, Further, row, end, idle, further_of}
+use Rattle.result_rows.specs.RowCells.{row_cells}
+use Rattle.result_rows.specs.declared.row.Row.{Row}
+use Rattle.sql_statements.specs.Form.{query_form}
+use Rattle.sql_statements.specs.declared.command.Command.{Command}
+use Rattle.sql_statements.specs.declared.form.Form.{Form}
+use Rattle.sql_statements.specs.declared.query.Query.{Query}
+use Rattle.my_session.specs.Awaited.{Awaited, further}
+use Rattle.my_session.specs.Halt.{Halts, Stops}
+use Rattle.my_session.specs.Statements.{IsRun, RunAwaits, RunSends, IsDescribed, QueryAwaits, QuerySends}
+use Rattle.my_session.specs.Login.{IsLoggedIn, LoginAwaits, LoginSends}
+use Rattle.my_session.specs.Wire.{Wire, Takes, Hears}
+use Rattle.my_session.specs.declared.fault.SessionFault.{SessionFault}
+use Rattle.my_session.specs.declared.fault.SessionFault.TheVariants.{Link, Refused, Garbled, NotProtocol10, PluginUnsupported, TooLong, StreamTooLong, OutOfMemory}
+
+-- the rows that are pending: where in the result set the reader is, and the form of the statement that asked for them
+pub record Pending : Type 0 where
+  pub reading : Reading
+  pub form : Form
+
+-- rows are awaited of so many columns
+abbrev pub rows_of : ℕ → Reading
+rows_of columns = record { columns = columns; awaited = 0 }
+
+-- a session: its link, how many bytes were heard on it, the sequence id of the next packet, whether it has failed, and what is pending
+pub record SessionView (L : Type 0) : Type 0 where
+  pub link : L
+  pub place : ℕ
+  pub id : ℕ
+  pub has_failed : Bool
+  pub pending : Pending
+
+-- what goes over its link
+abbrev pub wire_of : {L : Type 0} → Ghosts L → SessionView L → Wire
+wire_of of session = record {
+  sent = (of.told session.link).sent;
+  stream = stream (of.told session.link);
+  place = session.place;
+  id = session.id;
+}
+
+-- an ERR leaves a session as it is, and every other fault ends it
+abbrev pub ends_session : SessionFault → Bool
+ends_session (Refused form refusal) = false
+ends_session fault = true
+
+-- whether a session has failed behind a call
+abbrev pub failed_by : {A : Type 0} → Result A SessionFault → Bool
+failed_by (Ok answer) = false
+failed_by (Err fault) = ends_session fault
+
+-- the count of faults never falls, and a fault of the link comes only where it rose
+pub record IsCounted {A : Type 0} (before now : ℕ) (result : Result A SessionFault) : Type 0 where
+  pub later : before ≤ now
+  pub failed : result ≡ Err Link → Rose before now
+
+-- these two come at a login alone
+abbrev pub IsOfStatement : SessionFault → Type 0
+IsOfStatement (NotProtocol10 version) = ⊥
+IsOfStatement (PluginUnsupported name) = ⊥
+IsOfStatement fault = Unit {0}
+
+-- what running a command does
+abbrev pub Runs : Command → Wire → Result (Unit {0}) SessionFault → Wire → Type 0
+Runs command old (Ok done) new = Takes (IsRun command) old new
+Runs command old (Err fault) new = Stops (RunAwaits command) (RunSends command) old fault new
+
+-- what asking a query does
+abbrev pub Asks : Query → Wire → Result ℕ SessionFault → Wire → Type 0
+Asks query old (Ok columns) new = Takes (λ steps. IsDescribed query steps (rows_of columns)) old new
+Asks query old (Err fault) new = Stops (QueryAwaits query) (QuerySends query) old fault new
+
+-- what is pending behind a query
+abbrev pub PendingBehind : Query → Result ℕ SessionFault → Pending → Type 0
+PendingBehind query (Ok columns) pending = pending ≡ record { reading = rows_of columns; form = query_form query }
+PendingBehind query (Err fault) pending = pending.reading ≡ idle
+
+-- the next message was heard and is a row with these cells
+pub record HearsRow (reading : Reading) (found : Row) (old new : Wire) : Type 0 where
+  pub message : List ℕ
+  pub heard : Hears message old new
+  pub row_is : further_of reading message ≡ row (row_cells found)
+  pub place_is : found.place ≡ old.place
+
+-- the next message was heard and is the end of the rows
+pub record HearsEnd (reading : Reading) (old new : Wire) : Type 0 where
+  pub message : List ℕ
+  pub heard : Hears message old new
+  pub end_is : further_of reading message ≡ end
+
+-- what reading the next row does
+abbrev pub TakesRow : Pending → Wire → Result (Option Row) SessionFault → Wire → Type 0
+TakesRow pending old (Ok (Some found)) new = HearsRow pending.reading found old new
+TakesRow pending old (Ok None) new = HearsEnd pending.reading old new
+TakesRow pending old (Err fault) new = Halts (further pending.form pending.reading) old fault new
+
+-- what is pending behind it
+abbrev pub PendingBehindRow : Pending → Result (Option Row) SessionFault → Pending → Type 0
+PendingBehindRow old (Ok (Some found)) new = new ≡ old
+PendingBehindRow old (Ok None) new = new.reading ≡ idle
+PendingBehindRow old (Err fault) new = new.reading ≡ idle
+
+-- what a reader of rows says of one: whether it tells what goes over its link, that, its faults, whether it has failed, what is pending
+pub record ReaderView : Type 0 where
+  pub wire : Wire
+  pub faults : ℕ
+  pub has_failed : Bool
+  pub pending : Pending
+
+-- what reading the next row does to a reader of rows
+pub record NextRow (tells : Type 0) (old : ReaderView) (result : Result (Option Row) SessionFault) (tells_still : Type 0) (new : ReaderView) : Type 0 where
+  pub still : tells ↔ tells_still
+  pub counted : IsCounted old.faults new.faults result
+  pub has_failed : new.has_failed ≡ failed_by result
+  pub pending : PendingBehindRow old.pending result new.pending
+  pub takes : tells → TakesRow old.pending old.wire result new.wire
+
+module _ {L : Type 0} (of : Ghosts L) where
+  -- a link on which nothing was heard
+  abbrev pub fresh : L → Wire
+  fresh link = record { sent = (of.told link).sent; stream = stream (of.told link); place = 0; id = 0 }
+
+  -- a session that was logged in over a link
+  pub record LoggedIn (user password : List ℕ) (link : L) (session : SessionView L) : Type 0 where
+    pub tells : of.tells link ↔ of.tells session.link
+    pub later : of.faults link ≤ of.faults session.link
+    pub alive : session.has_failed ≡ false
+    pub idle : session.pending.reading ≡ idle
+    pub takes : of.tells link → Takes (IsLoggedIn user password) (fresh link) (wire_of of session)
+
+  -- the wire of a link that was given back
+  pub record IsWireOf (link : L) (wire : Wire) : Type 0 where
+    pub sent : wire.sent ≡ (of.told link).sent
+    pub stream : wire.stream ≡ stream (of.told link)
+
+  -- why a login stopped
+  pub record LoginStopped (user password : List ℕ) (link given_back : L) (fault : SessionFault) : Type 0 where
+    pub tells : of.tells link ↔ of.tells given_back
+    pub later : of.faults link ≤ of.faults given_back
+    pub failed : fault ≡ Link → Rose (of.faults link) (of.faults given_back)
+    pub wire : Wire
+    pub is_wire : IsWireOf given_back wire
+    pub stops : of.tells link → Stops (LoginAwaits user password) (LoginSends user password) (fresh link) fault wire
+
+  -- what closing a session does: COM_QUIT is sent, whatever comes of it, but not where the session has failed
+  pub record Closes (quit : List ℕ) (session : SessionView L) (link : L) : Type 0 where
+    pub tells : of.tells session.link ↔ of.tells link
+    pub later : of.faults session.link ≤ of.faults link
+    pub failed : session.has_failed ≡ true → link ≡ session.link
+    pub quits : session.has_failed ≡ false → of.tells session.link → ((of.told link).sent ≡ (of.told session.link).sent ++ quit ∷ []) ⊎ (((of.told link).sent ≡ (of.told session.link).sent) × Rose (of.faults session.link) (of.faults link))

@@ -1,0 +1,91 @@
+-- Statements and their replies (MySQL source documentation, COM_QUERY, COM_QUERY Response, ProtocolText::Resultset).
+use Rattle.std.specs.Prelude.{ℕ, ◌≡◌, ◌+◌, ◌-◌, ◌⊎◌, List, [], ◌∷◌, ◌++◌, length, map, replicate, Some}
+use Rattle.result_rows.specs.Reading.{Reading, Further, definition, counted, further_of}
+use Rattle.result_rows.specs.Reply.{reply_of}
+use Rattle.result_rows.specs.ResultSet.{taken}
+use Rattle.result_rows.specs.declared.reader.Reply.TheVariants.{Done, Columns}
+use Rattle.sql_statements.specs.Form.{command_form, query_form}
+use Rattle.sql_statements.specs.Text.{command_text, query_text}
+use Rattle.sql_statements.specs.declared.command.Command.{Command}
+use Rattle.sql_statements.specs.declared.command.Command.TheVariants.{Use}
+use Rattle.sql_statements.specs.declared.query.Query.{Query}
+use Rattle.sql_statements.specs.declared.query.Query.TheVariants.{MasterStatus, Schemas, Tables, Columns as ColumnsQuery, PrimaryKey, Triggers, Routines, ViewNeeds, CreateDatabase, CreateTable, CreateView, CreateProcedure, CreateFunction, CreateTrigger, Key, KeyAbove, Rows, RowsByKey, RowsAbove, RowsUpTo, RowsBetween, ProgressDump, ProgressFiles}
+use Rattle.my_session.specs.Awaited.{Awaited, done, count, further}
+use Rattle.my_session.specs.Wire.{Step, commands, hears}
+
+-- COM_QUERY: 03 and the text
+abbrev pub query_payload : List ℕ → List ℕ
+query_payload text = 3 ∷ text
+
+-- the payload of a command
+abbrev pub command_payload : Command → List ℕ
+command_payload command = query_payload (command_text command)
+
+-- the command was sent, and an OK heard
+pub record IsRun (command : Command) (steps : List Step) : Type 0 where
+  pub message : List ℕ
+  pub said_ok : reply_of message ≡ Some Done
+  pub steps_are : steps ≡ commands (command_payload command) ∷ hears message ∷ []
+
+-- what running a command awaits behind these steps
+pub data RunAwaits (command : Command) (steps : List Step) : Awaited → Type 0 where
+  an_ok : steps ≡ commands (command_payload command) ∷ [] → RunAwaits command steps (done (command_form command))
+
+-- what it sends behind these steps
+pub record RunSends (command : Command) (steps : List Step) (payload : List ℕ) : Type 0 where
+  pub steps_are : steps ≡ []
+  pub payload_is : payload ≡ command_payload command
+
+-- SHOW CREATE of what stands in a schema is asked for in that schema
+abbrev pub IsLed : Query → List Step → Type 0
+IsLed (CreateTable schema name) steps = IsRun (Use schema) steps
+IsLed (CreateView schema name) steps = IsRun (Use schema) steps
+IsLed (CreateProcedure schema name) steps = IsRun (Use schema) steps
+IsLed (CreateFunction schema name) steps = IsRun (Use schema) steps
+IsLed (CreateTrigger schema name) steps = IsRun (Use schema) steps
+IsLed query steps = steps ≡ []
+
+abbrev pub LeadAwaits : Query → List Step → Awaited → Type 0
+LeadAwaits (CreateTable schema name) steps awaited = RunAwaits (Use schema) steps awaited
+LeadAwaits (CreateView schema name) steps awaited = RunAwaits (Use schema) steps awaited
+LeadAwaits (CreateProcedure schema name) steps awaited = RunAwaits (Use schema) steps awaited
+LeadAwaits (CreateFunction schema name) steps awaited = RunAwaits (Use schema) steps awaited
+LeadAwaits (CreateTrigger schema name) steps awaited = RunAwaits (Use schema) steps awaited
+LeadAwaits query steps awaited = ⊥
+
+abbrev pub LeadSends : Query → List Step → List ℕ → Type 0
+LeadSends (CreateTable schema name) steps payload = RunSends (Use schema) steps payload
+LeadSends (CreateView schema name) steps payload = RunSends (Use schema) steps payload
+LeadSends (CreateProcedure schema name) steps payload = RunSends (Use schema) steps payload
+LeadSends (CreateFunction schema name) steps payload = RunSends (Use schema) steps payload
+LeadSends (CreateTrigger schema name) steps payload = RunSends (Use schema) steps payload
+LeadSends query steps payload = ⊥
+
+-- the query was sent
+pub record IsAsked (query : Query) (steps : List Step) : Type 0 where
+  pub before : List Step
+  pub led : IsLed query before
+  pub steps_are : steps ≡ before ++ commands (query_payload (query_text query)) ∷ []
+
+-- the number of columns was heard, and so many of the messages behind it, column definitions and their EOF, that the reader is here
+pub record IsDescribed (query : Query) (steps : List Step) (reading : Reading) : Type 0 where
+  pub before : List Step
+  pub asked : IsAsked query before
+  pub first : List ℕ
+  pub others : List (List ℕ)
+  pub columns : ℕ
+  pub reply : reply_of first ≡ Some (Columns columns)
+  pub turns : taken (counted columns) others ≡ replicate (length others) definition
+  pub reading_is : reading ≡ record { columns = columns; awaited = columns + 1 - length others }
+  pub steps_are : steps ≡ before ++ hears first ∷ map (λ message. hears message) others
+
+-- what asking a query awaits behind these steps
+pub data QueryAwaits (query : Query) (steps : List Step) : Awaited → Type 0 where
+  a_lead : {awaited : Awaited} → LeadAwaits query steps awaited → QueryAwaits query steps awaited
+  a_count : IsAsked query steps → QueryAwaits query steps (count (query_form query))
+  a_definition : {reading : Reading} → IsDescribed query steps reading → QueryAwaits query steps (further (query_form query) reading)
+
+-- what it sends behind these steps
+pub data QuerySends (query : Query) (steps : List Step) (payload : List ℕ) : Type 0 where
+  the_lead : LeadSends query steps payload → QuerySends query steps payload
+  the_query : IsLed query steps → payload ≡ query_payload (query_text query) → QuerySends query steps payload

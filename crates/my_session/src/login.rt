@@ -1,0 +1,276 @@
+// Logging in.
+ghost use Rattle.std.specs.Prelude.{◌≡◌, ◌≤◌, ◌↔◌, ◌+◌, ℕ, List, length, false, Some, Ok, Err, IfErr, IfOk, OnOk, MatchResult, option_copied};
+ghost use Rattle.my_login.specs.Response.{response};
+ghost use Rattle.my_login.specs.Switch.{switch_of};
+ghost use Rattle.result_rows.specs.Reply.{reply_of};
+ghost use Rattle.sql_statements.specs.declared.command.Command.{Command};
+ghost use Rattle.sql_statements.specs.declared.command.Command.TheVariants.{SetUp};
+ghost use Rattle.my_session.specs.Awaited.{greeting, decision, greeting_fault, decision_fault, switch_fault};
+ghost use Rattle.my_session.specs.Channel.{channel_wire};
+ghost use Rattle.my_session.specs.Halt.{Halts, Stops, Unsaid};
+ghost use Rattle.my_session.specs.Heard.{HearsGreeting, HearsDecision, IsDecision, IsAskedToSwitch};
+ghost use Rattle.my_session.specs.Login.{password_answer, switch_answer, IsGreeted, IsAccepted, IsLoggedIn, LoginAwaits, LoginSends};
+ghost use Rattle.my_session.specs.Session.{IsCounted, Runs, failed_by};
+ghost use Rattle.my_session.specs.Wire.{Wire, Takes, behind_sent};
+
+use crate::channel::Channel;
+use crate::fault::SessionFault;
+use crate::limits::SHORT_PAYLOAD;
+use crate::run::{hear_done, read_reply, run_on};
+use link_traits::Link;
+use my_login::{Greeting, LoginFault, Switch, native_answer, response_into};
+use result_rows::{Reply, RowReader};
+use sql_literals::Buffer;
+use sql_statements::{Command, Form};
+use std::alloc::Global;
+
+// What a server decides of a login.
+enum Decision {
+    // It is accepted.
+    Accepted,
+    // Another scramble is to be answered.
+    Switched(Switch),
+}
+
+// What proves the password over a scramble: nothing where it is empty.
+fn password_answer(password: &[u8], scramble: &[u8; 20]) -> Option<[u8; 20]>
+    ensures { result ≡ password_answer password.now scramble.now }
+{
+    match password {
+        [] => None,
+        [_, ..] => Some(native_answer(password, scramble)),
+    }
+}
+
+// What is answered to a message that is no greeting.
+fn greeting_fault(place: u64, fault: LoginFault) -> SessionFault
+    ensures { greeting_fault place (Err fault) ≡ Some result }
+{
+    match fault {
+        LoginFault::NotProtocol10(version) => SessionFault::NotProtocol10(version),
+        LoginFault::PluginUnsupported(_) => SessionFault::Garbled(place),
+        LoginFault::Refused(refusal) => SessionFault::Refused(Form::Connect, refusal),
+        LoginFault::Garbled => SessionFault::Garbled(place),
+    }
+}
+
+// What is answered to a message that is no request which can be met.
+fn switch_fault(place: u64, fault: LoginFault) -> SessionFault
+    ensures { switch_fault place (Err fault) ≡ Some result }
+{
+    match fault {
+        LoginFault::NotProtocol10(_) => SessionFault::Garbled(place),
+        LoginFault::PluginUnsupported(name) => SessionFault::PluginUnsupported(name),
+        LoginFault::Refused(_) => SessionFault::Garbled(place),
+        LoginFault::Garbled => SessionFault::Garbled(place),
+    }
+}
+
+// Hears the greeting.
+fn hear_greeting<L: Link>(channel: &mut Channel<L>) -> Result<Greeting, SessionFault>
+    requires alive { channel.old.has_failed ≡ false }
+
+    ensures tells { L.tells channel.old.link ↔ L.tells channel.new.link }
+    ensures counted { IsCounted (L.faults channel.old.link) (L.faults channel.new.link) result }
+    ensures alive { OnOk result (channel.new.has_failed ≡ false) }
+    ensures heard { IfOk result (λ found. L.tells channel.old.link → HearsGreeting found (channel_wire L.Link channel.old) (channel_wire L.Link channel.new)) }
+    ensures err { IfErr result (λ fault. L.tells channel.old.link → Halts greeting (channel_wire L.Link channel.old) fault (channel_wire L.Link channel.new)) }
+{
+    let place = channel.place();
+    if let Err(fault) = channel.hear() {
+        return Err(fault);
+    }
+    match Greeting::read(channel.message().payload) {
+        Ok(greeting) => Ok(greeting),
+        Err(fault) => Err(greeting_fault(place, fault)),
+    }
+}
+
+// Sends the response to a greeting.
+fn respond<L: Link>(
+    alloc: Global,
+    channel: &mut Channel<L>,
+    user: &[u8],
+    answer: Option<&[u8; 20]>,
+) -> Result<(), SessionFault>
+    requires alive { channel.old.has_failed ≡ false }
+
+    ensures tells { L.tells channel.old.link ↔ L.tells channel.new.link }
+    ensures counted { IsCounted (L.faults channel.old.link) (L.faults channel.new.link) result }
+    ensures alive { OnOk result (channel.new.has_failed ≡ false) }
+    ensures sent { OnOk result (L.tells channel.old.link → channel_wire L.Link channel.new ≡ behind_sent channel.old.id (response user.now (option_copied answer.entry)) (channel_wire L.Link channel.old)) }
+    ensures err { IfErr result (λ fault. L.tells channel.old.link → Unsaid (response user.now (option_copied answer.entry)) (channel_wire L.Link channel.old) fault (channel_wire L.Link channel.new)) }
+{
+    let mut out = Vec::new(alloc);
+    if response_into(user, answer, &mut out).is_err() {
+        return Err(SessionFault::OutOfMemory);
+    }
+    channel.answer(&out)
+}
+
+// Hears the greeting and answers it.
+fn greet<L: Link>(
+    alloc: Global,
+    channel: &mut Channel<L>,
+    user: &[u8],
+    password: &[u8],
+) -> Result<(), SessionFault>
+    requires alive { channel.old.has_failed ≡ false }
+
+    ensures tells { L.tells channel.old.link ↔ L.tells channel.new.link }
+    ensures counted { IsCounted (L.faults channel.old.link) (L.faults channel.new.link) result }
+    ensures alive { OnOk result (channel.new.has_failed ≡ false) }
+    ensures ok { OnOk result (L.tells channel.old.link → Takes (IsGreeted user.now password.now) (channel_wire L.Link channel.old) (channel_wire L.Link channel.new)) }
+    ensures err { IfErr result (λ fault. L.tells channel.old.link → Stops (LoginAwaits user.now password.now) (LoginSends user.now password.now) (channel_wire L.Link channel.old) fault (channel_wire L.Link channel.new)) }
+{
+    let greeting = match hear_greeting(channel) {
+        Ok(greeting) => greeting,
+        Err(fault) => return Err(fault),
+    };
+    let answer = password_answer(password, &greeting.scramble);
+    respond(alloc, channel, user, answer.as_ref())
+}
+
+// Reads a request for another scramble's answer.
+fn read_switch(place: u64, payload: &[u8]) -> Result<Switch, SessionFault>
+    ensures { MatchResult result (λ found. switch_of payload.now ≡ Ok found) (λ fault. switch_fault place (switch_of payload.now) ≡ Some fault) }
+{
+    match Switch::read(payload) {
+        Ok(switch) => Ok(switch),
+        Err(fault) => Err(switch_fault(place, fault)),
+    }
+}
+
+// Reads what a server decides.
+fn read_decision(place: u64, payload: &[u8]) -> Result<Decision, SessionFault>
+    ensures { MatchResult result (λ found. IsDecision found payload.now) (λ fault. decision_fault place payload.now (reply_of payload.now) ≡ Some fault) }
+{
+    match read_reply(payload, &mut RowReader::new()) {
+        Some(Reply::Done) => return Ok(Decision::Accepted),
+        Some(Reply::Refused(refusal)) => {
+            return Err(SessionFault::Refused(Form::Connect, refusal));
+        }
+        Some(Reply::Columns(_)) => {}
+        None => {}
+    }
+    match read_switch(place, payload) {
+        Ok(switch) => Ok(Decision::Switched(switch)),
+        Err(fault) => Err(fault),
+    }
+}
+
+// Hears what the server decides.
+fn hear_decision<L: Link>(channel: &mut Channel<L>) -> Result<Decision, SessionFault>
+    requires alive { channel.old.has_failed ≡ false }
+
+    ensures tells { L.tells channel.old.link ↔ L.tells channel.new.link }
+    ensures counted { IsCounted (L.faults channel.old.link) (L.faults channel.new.link) result }
+    ensures alive { OnOk result (channel.new.has_failed ≡ false) }
+    ensures heard { IfOk result (λ found. L.tells channel.old.link → HearsDecision found (channel_wire L.Link channel.old) (channel_wire L.Link channel.new)) }
+    ensures err { IfErr result (λ fault. L.tells channel.old.link → Halts decision (channel_wire L.Link channel.old) fault (channel_wire L.Link channel.new)) }
+{
+    let place = channel.place();
+    if let Err(fault) = channel.hear() {
+        return Err(fault);
+    }
+    read_decision(place, channel.message().payload)
+}
+
+// Answers another scramble, and hears that the login is accepted.
+fn answer_switch<L: Link>(
+    channel: &mut Channel<L>,
+    password: &[u8],
+    switch: Switch,
+) -> Result<(), SessionFault>
+    requires alive { channel.old.has_failed ≡ false }
+
+    ensures tells { L.tells channel.old.link ↔ L.tells channel.new.link }
+    ensures counted { IsCounted (L.faults channel.old.link) (L.faults channel.new.link) result }
+    ensures alive { OnOk result (channel.new.has_failed ≡ false) }
+    ensures ok { OnOk result ((start : Wire) (user : List ℕ) → L.tells channel.old.link → Takes (IsAskedToSwitch user password.now switch) start (channel_wire L.Link channel.old) → Takes (IsAccepted user password.now) start (channel_wire L.Link channel.new)) }
+    ensures err { IfErr result (λ fault. (start : Wire) (user : List ℕ) → L.tells channel.old.link → Takes (IsAskedToSwitch user password.now switch) start (channel_wire L.Link channel.old) → Stops (LoginAwaits user password.now) (LoginSends user password.now) start fault (channel_wire L.Link channel.new)) }
+{
+    let answer = password_answer(password, &switch.scramble);
+    if let Err(fault) = send_answer(channel, answer.as_ref()) {
+        return Err(fault);
+    }
+    hear_done(channel, Form::Connect)
+}
+
+// Sends the answer to another scramble: nothing where the password is empty.
+fn send_answer<L: Link>(
+    channel: &mut Channel<L>,
+    answer: Option<&[u8; 20]>,
+) -> Result<(), SessionFault>
+    requires alive { channel.old.has_failed ≡ false }
+
+    ensures tells { L.tells channel.old.link ↔ L.tells channel.new.link }
+    ensures counted { IsCounted (L.faults channel.old.link) (L.faults channel.new.link) result }
+    ensures alive { OnOk result (channel.new.has_failed ≡ false) }
+    ensures sent { OnOk result (L.tells channel.old.link → channel_wire L.Link channel.new ≡ behind_sent channel.old.id (switch_answer (option_copied answer.entry)) (channel_wire L.Link channel.old)) }
+    ensures err { IfErr result (λ fault. L.tells channel.old.link → Unsaid (switch_answer (option_copied answer.entry)) (channel_wire L.Link channel.old) fault (channel_wire L.Link channel.new)) }
+{
+    match answer {
+        Some(bytes) => channel.answer(bytes),
+        None => channel.answer(&[]),
+    }
+}
+
+// Hears that the login is accepted, over another scramble where the server asks for that.
+fn be_accepted<L: Link>(channel: &mut Channel<L>, password: &[u8]) -> Result<(), SessionFault>
+    requires alive { channel.old.has_failed ≡ false }
+
+    ensures tells { L.tells channel.old.link ↔ L.tells channel.new.link }
+    ensures counted { IsCounted (L.faults channel.old.link) (L.faults channel.new.link) result }
+    ensures alive { OnOk result (channel.new.has_failed ≡ false) }
+    ensures ok { OnOk result ((start : Wire) (user : List ℕ) → L.tells channel.old.link → Takes (IsGreeted user password.now) start (channel_wire L.Link channel.old) → Takes (IsAccepted user password.now) start (channel_wire L.Link channel.new)) }
+    ensures err { IfErr result (λ fault. (start : Wire) (user : List ℕ) → L.tells channel.old.link → Takes (IsGreeted user password.now) start (channel_wire L.Link channel.old) → Stops (LoginAwaits user password.now) (LoginSends user password.now) start fault (channel_wire L.Link channel.new)) }
+{
+    match hear_decision(channel) {
+        Ok(Decision::Accepted) => Ok(()),
+        Ok(Decision::Switched(switch)) => answer_switch(channel, password, switch),
+        Err(fault) => Err(fault),
+    }
+}
+
+// Reserves room for short payloads, and sets the session up.
+fn set_up<L: Link>(channel: &mut Channel<L>, payload: &mut Buffer) -> Result<(), SessionFault>
+    requires alive { channel.old.has_failed ≡ false }
+
+    ensures tells { L.tells channel.old.link ↔ L.tells channel.new.link }
+    ensures counted { IsCounted (L.faults channel.old.link) (L.faults channel.new.link) result }
+    ensures alive { OnOk result (channel.new.has_failed ≡ false) }
+    ensures room { OnOk result (SHORT_PAYLOAD ≤ length payload.new.bytes + payload.new.spare) }
+    ensures runs { L.tells channel.old.link → Runs SetUp (channel_wire L.Link channel.old) result (channel_wire L.Link channel.new) }
+{
+    if payload.reserve(SHORT_PAYLOAD).is_err() {
+        return Err(SessionFault::OutOfMemory);
+    }
+    run_on(channel, payload, &Command::SetUp)
+}
+
+/// Logs in over a link on which nothing was heard.
+pub(crate) fn log_in<L: Link>(
+    alloc: Global,
+    channel: &mut Channel<L>,
+    payload: &mut Buffer,
+    user: &[u8],
+    password: &[u8],
+) -> Result<(), SessionFault>
+    requires alive { channel.old.has_failed ≡ false }
+
+    ensures tells { L.tells channel.old.link ↔ L.tells channel.new.link }
+    ensures counted { IsCounted (L.faults channel.old.link) (L.faults channel.new.link) result }
+    ensures alive { OnOk result (channel.new.has_failed ≡ false) }
+    ensures room { OnOk result (SHORT_PAYLOAD ≤ length payload.new.bytes + payload.new.spare) }
+    ensures ok { OnOk result (L.tells channel.old.link → Takes (IsLoggedIn user.now password.now) (channel_wire L.Link channel.old) (channel_wire L.Link channel.new)) }
+    ensures err { IfErr result (λ fault. L.tells channel.old.link → Stops (LoginAwaits user.now password.now) (LoginSends user.now password.now) (channel_wire L.Link channel.old) fault (channel_wire L.Link channel.new)) }
+{
+    if let Err(fault) = greet(alloc, channel, user, password) {
+        return Err(fault);
+    }
+    if let Err(fault) = be_accepted(channel, password) {
+        return Err(fault);
+    }
+    set_up(channel, payload)
+}

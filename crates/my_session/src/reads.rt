@@ -1,0 +1,47 @@
+// What reading a database goes through.
+ghost use Rattle.std.specs.Prelude.{◌≡◌, ◌<◌, ◌↔◌, ℕ, Bool, false, IfErr, IfOk, OnOk};
+ghost use Rattle.std.specs.Borrow.{sem};
+ghost use Rattle.std.specs.Io.BufRead.{Rests};
+ghost use Rattle.result_rows.specs.Reading.{idle};
+ghost use Rattle.sql_statements.specs.Statement.{QueryHasText};
+ghost use Rattle.my_session.specs.Session.{ReaderView, IsCounted, IsOfStatement, Asks, NextRow, PendingBehind, failed_by};
+
+use crate::fault::SessionFault;
+use result_rows::Row;
+use sql_statements::Query;
+
+/// What all reading of a database goes through: a query is asked, and its rows come one by one.
+pub trait Reads {
+    /// Whether it tells what goes over its link.
+    ghost tells: { Self → Type 0 };
+
+    /// What goes over its link, how often that has failed, whether the reader has failed, and the rows that
+    /// are pending.
+    ghost view: { Self → ReaderView };
+
+    /// Asks a query, and answers how many columns its rows have. Where the query is a SHOW CREATE of
+    /// anything but a database, `USE` of its schema is sent first, and what is refused there is its
+    /// answer. The conditions are that the reader hasn't failed and that no rows are pending. A reply
+    /// without columns is `Garbled`. (MySQL source documentation, `COM_QUERY`.)
+    fn query(&mut self, query: &Query<'_>) -> Result<u32, SessionFault>
+        requires text { QueryHasText query.now }
+        requires alive { (view self.old).has_failed ≡ false }
+        requires none_pending { (view self.old).pending.reading ≡ idle }
+
+        ensures tells { tells self.old ↔ tells self.new }
+        ensures counted { IsCounted (view self.old).faults (view self.new).faults result }
+        ensures failed { (view self.new).has_failed ≡ failed_by result }
+        ensures pending { PendingBehind query.now result (view self.new).pending }
+        ensures columns { IfOk result (λ columns. 0 < columns) }
+        ensures fault { IfErr result IsOfStatement }
+        ensures asks { tells self.old → Asks query.now (view self.old).wire result (view self.new).wire };
+
+    /// The next row, lent until the next call, or `None` exactly at the end of the rows. The
+    /// condition is that rows are pending. Takes no memory but that of the row's own message.
+    fn next_row(&mut self) -> Result<Option<Row<'_>>, SessionFault>
+        requires alive { (view self.old).has_failed ≡ false }
+        requires pending { 0 < (view self.old).pending.reading.columns }
+        requires rows { (view self.old).pending.reading.awaited ≡ 0 }
+
+        ensures* after { sem 𝓛 (Rests Self.row self.entry (λ new. NextRow (tells self.old) (view self.old) result (tells new) (view new))) };
+}

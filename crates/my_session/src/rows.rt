@@ -1,0 +1,350 @@
+// Queries, and their rows.
+ghost use Rattle.std.specs.Prelude.{◌≡◌, ◌≤◌, ◌<◌, ◌↔◌, ◌+◌, ◌-◌, ℕ, length, false, Some, Ok, Err, IfErr, IfOk, OnOk, MatchResult, option_copied};
+ghost use Rattle.result_rows.specs.Reading.{idle, counted, definition_if, further_of, after};
+ghost use Rattle.result_rows.specs.declared.reader.Reply.TheVariants.{Columns};
+ghost use Rattle.sql_statements.specs.Form.{query_form};
+ghost use Rattle.sql_statements.specs.Statement.{QueryHasText};
+ghost use Rattle.sql_statements.specs.Text.{query_text};
+ghost use Rattle.my_session.specs.Awaited.{count, further};
+ghost use Rattle.my_session.specs.Channel.{channel_wire};
+ghost use Rattle.my_session.specs.Halt.{Halts, Stops, Unsaid};
+ghost use Rattle.my_session.specs.Heard.{HearsReply, HearsDefinition, IsBehindRow, Judges};
+ghost use Rattle.my_session.specs.Lead.{lead_of};
+ghost use Rattle.my_session.specs.Session.{Asks, IsCounted, IsOfStatement, failed_by, rows_of};
+ghost use Rattle.my_session.specs.Statements.{IsLed, LeadAwaits, LeadSends, IsAsked, IsDescribed, QueryAwaits, QuerySends, query_payload};
+ghost use Rattle.my_session.specs.Wire.{Wire, Hears, Takes, behind_sent};
+
+use crate::channel::Channel;
+use crate::fault::SessionFault;
+use crate::reads::Reads;
+use crate::run::{hear_reply, run_on};
+use crate::session::Session;
+use link_traits::Link;
+use my_packets::Message;
+use result_rows::{Reply, Row, RowReader, Turn};
+use sql_literals::Buffer;
+use sql_statements::{Command, Form, Part, Query, query_into};
+
+// The schema in which a query is to be asked.
+fn lead_of<'q>(query: &'q Query<'_>) -> Option<&'q [u8]>
+    ensures { option_copied result ≡ lead_of query.now }
+{
+    match query {
+        Query::CreateTable { schema, .. } => Some(schema.bytes()),
+        Query::CreateView { schema, .. } => Some(schema.bytes()),
+        Query::CreateProcedure { schema, .. } => Some(schema.bytes()),
+        Query::CreateFunction { schema, .. } => Some(schema.bytes()),
+        Query::CreateTrigger { schema, .. } => Some(schema.bytes()),
+        Query::MasterStatus
+        | Query::Schemas
+        | Query::Tables { .. }
+        | Query::Columns { .. }
+        | Query::PrimaryKey { .. }
+        | Query::Triggers { .. }
+        | Query::Routines { .. }
+        | Query::ViewNeeds { .. }
+        | Query::CreateDatabase { .. }
+        | Query::Key { .. }
+        | Query::KeyAbove { .. }
+        | Query::Rows { .. }
+        | Query::RowsByKey { .. }
+        | Query::RowsAbove { .. }
+        | Query::RowsUpTo { .. }
+        | Query::RowsBetween { .. }
+        | Query::ProgressDump
+        | Query::ProgressFiles => None,
+    }
+}
+
+// Sends the `USE` that leads a query, and hears its OK.
+fn lead<L: Link>(
+    channel: &mut Channel<L>,
+    payload: &mut Buffer,
+    query: &Query<'_>,
+) -> Result<(), SessionFault>
+    requires alive { channel.old.has_failed ≡ false }
+
+    ensures tells { L.tells channel.old.link ↔ L.tells channel.new.link }
+    ensures counted { IsCounted (L.faults channel.old.link) (L.faults channel.new.link) result }
+    ensures alive { failed_by result ≡ false → channel.new.has_failed ≡ false }
+    ensures room { length payload.old.bytes + payload.old.spare ≤ length payload.new.bytes + payload.new.spare }
+    ensures fault { IfErr result IsOfStatement }
+    ensures ok { OnOk result (L.tells channel.old.link → Takes (IsLed query.now) (channel_wire L.Link channel.old) (channel_wire L.Link channel.new)) }
+    ensures err { IfErr result (λ fault. L.tells channel.old.link → Stops (LeadAwaits query.now) (LeadSends query.now) (channel_wire L.Link channel.old) fault (channel_wire L.Link channel.new)) }
+{
+    match lead_of(query) {
+        Some(schema) => run_on(channel, payload, &Command::Use(Part::of(schema))),
+        None => Ok(()),
+    }
+}
+
+// Writes the payload of a query.
+fn write_query(payload: &mut Buffer, query: &Query<'_>) -> Result<(), SessionFault>
+    requires text { QueryHasText query.now }
+
+    ensures bytes { OnOk result (payload.new.bytes ≡ query_payload (query_text query.now)) }
+    ensures room { length payload.old.bytes + payload.old.spare ≤ length payload.new.bytes + payload.new.spare }
+    ensures fault { IfErr result (λ fault. fault ≡ SessionFault.OutOfMemory) }
+{
+    payload.clear();
+    if payload.reserve(1).is_err() {
+        return Err(SessionFault::OutOfMemory);
+    }
+    payload.push_byte(3);
+    match query_into(query, payload) {
+        Ok(()) => Ok(()),
+        Err(_) => Err(SessionFault::OutOfMemory),
+    }
+}
+
+// Sends a query.
+#[tactic(auto, using(crate::proofs::Answering::channel_of_statement))]
+fn send_query<L: Link>(
+    channel: &mut Channel<L>,
+    payload: &mut Buffer,
+    query: &Query<'_>,
+) -> Result<(), SessionFault>
+    requires text { QueryHasText query.now }
+    requires alive { channel.old.has_failed ≡ false }
+
+    ensures tells { L.tells channel.old.link ↔ L.tells channel.new.link }
+    ensures counted { IsCounted (L.faults channel.old.link) (L.faults channel.new.link) result }
+    ensures alive { failed_by result ≡ false → channel.new.has_failed ≡ false }
+    ensures room { length payload.old.bytes + payload.old.spare ≤ length payload.new.bytes + payload.new.spare }
+    ensures fault { IfErr result IsOfStatement }
+    ensures sent { OnOk result (L.tells channel.old.link → channel_wire L.Link channel.new ≡ behind_sent 0 (query_payload (query_text query.now)) (channel_wire L.Link channel.old)) }
+    ensures err { IfErr result (λ fault. L.tells channel.old.link → Unsaid (query_payload (query_text query.now)) (channel_wire L.Link channel.old) fault (channel_wire L.Link channel.new)) }
+{
+    if let Err(fault) = write_query(payload, query) {
+        return Err(fault);
+    }
+    channel.say(0, payload.as_slice())
+}
+
+// Hears the number of columns.
+#[tactic(auto, using(crate::proofs::Answering::halts_count, crate::proofs::Answering::misheard_halts, crate::proofs::Answering::channel_of_statement))]
+fn hear_count<L: Link>(
+    channel: &mut Channel<L>,
+    reader: &mut RowReader,
+    form: Form,
+) -> Result<u32, SessionFault>
+    requires alive { channel.old.has_failed ≡ false }
+
+    ensures tells { L.tells channel.old.link ↔ L.tells channel.new.link }
+    ensures counted { IsCounted (L.faults channel.old.link) (L.faults channel.new.link) result }
+    ensures alive { failed_by result ≡ false → channel.new.has_failed ≡ false }
+    ensures fault { IfErr result IsOfStatement }
+    ensures some { IfOk result (λ columns. 0 < columns) }
+    ensures few { IfOk result (λ columns. columns < 65536) }
+    ensures reader { IfOk result (λ columns. reader.new ≡ counted columns) }
+    ensures heard { IfOk result (λ columns. L.tells channel.old.link → HearsReply (Some (Columns columns)) (channel_wire L.Link channel.old) (channel_wire L.Link channel.new)) }
+    ensures err { IfErr result (λ fault. L.tells channel.old.link → Halts (count form) (channel_wire L.Link channel.old) fault (channel_wire L.Link channel.new)) }
+{
+    let place = channel.place();
+    match hear_reply(channel, reader) {
+        Ok(Some(Reply::Columns(columns))) => Ok(columns),
+        Ok(Some(Reply::Refused(refusal))) => Err(SessionFault::Refused(form, refusal)),
+        Ok(Some(Reply::Done)) => Err(SessionFault::Garbled(place)),
+        Ok(None) => Err(SessionFault::Garbled(place)),
+        Err(fault) => Err(fault),
+    }
+}
+
+// Whether a message is a column definition, or the EOF behind the definitions, where one is awaited.
+fn is_definition(reader: &mut RowReader, message: Message<'_>) -> bool
+    requires pending { 0 < reader.old.columns }
+    requires awaited { 0 < reader.old.awaited }
+
+    ensures turn { further_of reader.old message.entry.payload.now ≡ definition_if result }
+    ensures after { reader.new ≡ after reader.old (definition_if result) }
+{
+    match reader.more(message) {
+        Ok(Turn::Definition) => true,
+        Ok(Turn::Row(_)) => false,
+        Ok(Turn::End) => false,
+        Ok(Turn::Refused(_)) => false,
+        Err(_) => false,
+    }
+}
+
+// Hears a column definition, or the EOF behind the definitions.
+fn hear_definition<L: Link>(
+    channel: &mut Channel<L>,
+    reader: &mut RowReader,
+    form: Form,
+) -> Result<(), SessionFault>
+    requires alive { channel.old.has_failed ≡ false }
+    requires pending { 0 < reader.old.columns }
+    requires awaited { 0 < reader.old.awaited }
+
+    ensures tells { L.tells channel.old.link ↔ L.tells channel.new.link }
+    ensures counted { IsCounted (L.faults channel.old.link) (L.faults channel.new.link) result }
+    ensures alive { failed_by result ≡ false → channel.new.has_failed ≡ false }
+    ensures fault { IfErr result IsOfStatement }
+    ensures reader { OnOk result (reader.new ≡ record reader.old { awaited = reader.old.awaited - 1 }) }
+    ensures heard { OnOk result (L.tells channel.old.link → HearsDefinition reader.old (channel_wire L.Link channel.old) (channel_wire L.Link channel.new)) }
+    ensures err { IfErr result (λ fault. L.tells channel.old.link → Halts (further form reader.old) (channel_wire L.Link channel.old) fault (channel_wire L.Link channel.new)) }
+{
+    let place = channel.place();
+    if let Err(fault) = channel.hear() {
+        return Err(fault);
+    }
+    if is_definition(reader, channel.message()) {
+        return Ok(());
+    }
+    Err(SessionFault::Garbled(place))
+}
+
+// Hears the definitions of so many columns, and their EOF.
+fn describe<L: Link>(
+    channel: &mut Channel<L>,
+    reader: &mut RowReader,
+    query: &Query<'_>,
+    columns: u32,
+) -> Result<(), SessionFault>
+    requires alive { channel.old.has_failed ≡ false }
+    requires some { 0 < columns }
+    requires few { columns < 65536 }
+    requires reader { reader.old ≡ counted columns }
+
+    ensures tells { L.tells channel.old.link ↔ L.tells channel.new.link }
+    ensures counted { IsCounted (L.faults channel.old.link) (L.faults channel.new.link) result }
+    ensures alive { failed_by result ≡ false → channel.new.has_failed ≡ false }
+    ensures fault { IfErr result IsOfStatement }
+    ensures reader { OnOk result (reader.new ≡ rows_of columns) }
+    ensures ok { OnOk result ((start : Wire) → L.tells channel.old.link → Takes (λ steps. IsDescribed query.now steps (counted columns)) start (channel_wire L.Link channel.old) → Takes (λ steps. IsDescribed query.now steps (rows_of columns)) start (channel_wire L.Link channel.new)) }
+    ensures err { IfErr result (λ fault. (start : Wire) → L.tells channel.old.link → Takes (λ steps. IsDescribed query.now steps (counted columns)) start (channel_wire L.Link channel.old) → Stops (QueryAwaits query.now) (QuerySends query.now) start fault (channel_wire L.Link channel.new)) }
+{
+    let form = query.form();
+    let mut left = columns + 1;
+    'definitions: while 0 < left {
+        if let Err(fault) = hear_definition(channel, reader, form) {
+            return Err(fault);
+        }
+        left -= 1;
+    }
+    Ok(())
+}
+
+// Asks a query, and answers how many columns its rows have.
+fn ask<L: Link>(
+    channel: &mut Channel<L>,
+    payload: &mut Buffer,
+    reader: &mut RowReader,
+    query: &Query<'_>,
+) -> Result<u32, SessionFault>
+    requires text { QueryHasText query.now }
+    requires alive { channel.old.has_failed ≡ false }
+
+    ensures tells { L.tells channel.old.link ↔ L.tells channel.new.link }
+    ensures counted { IsCounted (L.faults channel.old.link) (L.faults channel.new.link) result }
+    ensures alive { failed_by result ≡ false → channel.new.has_failed ≡ false }
+    ensures room { length payload.old.bytes + payload.old.spare ≤ length payload.new.bytes + payload.new.spare }
+    ensures fault { IfErr result IsOfStatement }
+    ensures columns { IfOk result (λ columns. 0 < columns) }
+    ensures reader { IfOk result (λ columns. reader.new ≡ rows_of columns) }
+    ensures asks { L.tells channel.old.link → Asks query.now (channel_wire L.Link channel.old) result (channel_wire L.Link channel.new) }
+{
+    if let Err(fault) = lead(channel, payload, query) {
+        return Err(fault);
+    }
+    if let Err(fault) = send_query(channel, payload, query) {
+        return Err(fault);
+    }
+    let columns = match hear_count(channel, reader, query.form()) {
+        Ok(columns) => columns,
+        Err(fault) => return Err(fault),
+    };
+    if let Err(fault) = describe(channel, reader, query, columns) {
+        return Err(fault);
+    }
+    Ok(columns)
+}
+
+// Reads a message in the place of a row, and says whether it is one; else it is the end. Behind a
+// fault nothing is pending.
+fn judge(reader: &mut RowReader, form: Form, message: Message<'_>) -> Result<bool, SessionFault>
+    requires pending { 0 < reader.old.columns }
+    requires rows { reader.old.awaited ≡ 0 }
+
+    ensures { Judges reader.old form message.entry.payload.now message.entry.place result reader.new }
+{
+    let place = message.place;
+    match reader.more(message) {
+        Ok(Turn::Row(_)) => Ok(true),
+        Ok(Turn::End) => Ok(false),
+        Ok(Turn::Refused(refusal)) => Err(SessionFault::Refused(form, refusal)),
+        Ok(Turn::Definition) => unreachable!(),
+        Err(_) => {
+            *reader = RowReader::new();
+            Err(SessionFault::Garbled(place))
+        }
+    }
+}
+
+// Hears a message in the place of a row, and says whether it is one; else it is the end. Behind a
+// fault nothing is pending.
+fn advance<L: Link>(
+    channel: &mut Channel<L>,
+    reader: &mut RowReader,
+    form: Form,
+) -> Result<bool, SessionFault>
+    requires alive { channel.old.has_failed ≡ false }
+    requires pending { 0 < reader.old.columns }
+    requires rows { reader.old.awaited ≡ 0 }
+
+    ensures tells { L.tells channel.old.link ↔ L.tells channel.new.link }
+    ensures counted { IsCounted (L.faults channel.old.link) (L.faults channel.new.link) result }
+    ensures alive { failed_by result ≡ false → channel.new.has_failed ≡ false }
+    ensures began { OnOk result (channel.new.began ≡ channel.old.place) }
+    ensures reader { MatchResult result (λ is_row. IsBehindRow reader.old channel.new.message is_row reader.new) (λ _. reader.new ≡ idle) }
+    ensures heard { OnOk result (L.tells channel.old.link → Hears channel.new.message (channel_wire L.Link channel.old) (channel_wire L.Link channel.new)) }
+    ensures err { IfErr result (λ fault. L.tells channel.old.link → Halts (further form reader.old) (channel_wire L.Link channel.old) fault (channel_wire L.Link channel.new)) }
+{
+    if let Err(fault) = channel.hear() {
+        *reader = RowReader::new();
+        return Err(fault);
+    }
+    judge(reader, form, channel.message())
+}
+
+impl<L: Link> Reads for Session<L> {
+    ghost use Rattle.my_session.specs.Session.{ReaderView, wire_of};
+
+    ghost tells = { λ session. L.tells session.link };
+
+    ghost view = { λ session. record { wire = wire_of L.Link session; faults = L.faults session.link; has_failed = session.has_failed; pending = session.pending } };
+
+    fn query(&mut self, query: &Query<'_>) -> Result<u32, SessionFault> {
+        match ask(
+            &mut self.channel,
+            &mut self.payload,
+            &mut self.reader,
+            query,
+        ) {
+            Ok(columns) => {
+                self.form = query.form();
+                Ok(columns)
+            }
+            Err(fault) => {
+                self.reader = RowReader::new();
+                self.has_failed = fault.ends_session();
+                Err(fault)
+            }
+        }
+    }
+
+    fn next_row(&mut self) -> Result<Option<Row<'_>>, SessionFault> {
+        let is_row = match advance(&mut self.channel, &mut self.reader, self.form) {
+            Ok(is_row) => is_row,
+            Err(fault) => {
+                self.has_failed = fault.ends_session();
+                return Err(fault);
+            }
+        };
+        if is_row {
+            return Ok(Some(self.reader.found_row(self.channel.message())));
+        }
+        Ok(None)
+    }
+}

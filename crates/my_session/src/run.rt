@@ -1,0 +1,121 @@
+// Commands, and the first message of a reply.
+ghost use Rattle.std.specs.Prelude.{◌≡◌, ◌≤◌, ◌↔◌, ◌+◌, length, false, Some, IfErr, IfOk, OnOk, OnErr, Err};
+ghost use Rattle.result_rows.specs.Reply.{reply_of};
+ghost use Rattle.sql_statements.specs.Statement.{CommandHasText};
+ghost use Rattle.sql_statements.specs.Text.{command_text};
+ghost use Rattle.my_session.specs.Awaited.{done};
+ghost use Rattle.my_session.specs.Channel.{channel_wire, IsOfChannel};
+ghost use Rattle.my_session.specs.Halt.{Halts, Misheard};
+ghost use Rattle.my_session.specs.Heard.{HasColumns, HearsReply, reading_of};
+ghost use Rattle.my_session.specs.Session.{IsCounted, IsOfStatement, Runs, failed_by};
+ghost use Rattle.my_session.specs.Statements.{command_payload};
+
+use crate::channel::Channel;
+use crate::fault::SessionFault;
+use link_traits::Link;
+use result_rows::{Reply, RowReader};
+use sql_literals::Buffer;
+use sql_statements::{Command, Form, command_into};
+
+/// Hears a reply's first message; `None` where it spells none. Takes no memory.
+#[tactic(auto, using(crate::proofs::Answering::skim_tells))]
+pub(crate) fn hear_reply<L: Link>(
+    channel: &mut Channel<L>,
+    reader: &mut RowReader,
+) -> Result<Option<Reply>, SessionFault>
+    requires alive { channel.old.has_failed ≡ false }
+
+    ensures tells { L.tells channel.old.link ↔ L.tells channel.new.link }
+    ensures counted { IsCounted (L.faults channel.old.link) (L.faults channel.new.link) result }
+    ensures alive { OnOk result (channel.new.has_failed ≡ false) }
+    ensures kind { IfErr result IsOfChannel }
+    ensures memory { result ≡ Err SessionFault.OutOfMemory → ⊥ }
+    ensures columns { IfOk result HasColumns }
+    ensures reader { IfOk result (λ reply. reader.new ≡ reading_of reply) }
+    ensures heard { IfOk result (λ reply. L.tells channel.old.link → HearsReply reply (channel_wire L.Link channel.old) (channel_wire L.Link channel.new)) }
+    ensures err { IfErr result (λ fault. L.tells channel.old.link → Misheard (channel_wire L.Link channel.old) fault (channel_wire L.Link channel.new)) }
+{
+    let skim = channel.skim()?;
+    Ok(read_reply(skim.kept(), reader))
+}
+
+/// Reads a reply's first message.
+#[tactic(auto, using(crate::proofs::Counting::has_columns))]
+pub(crate) fn read_reply(payload: &[u8], reader: &mut RowReader) -> Option<Reply>
+    ensures reply { result ≡ reply_of payload.now }
+    ensures columns { HasColumns result }
+    ensures reader { reader.new ≡ reading_of result }
+{
+    reader.first(payload).ok()
+}
+
+/// Hears an OK, where an ERR answers a statement of this form. Takes no memory.
+#[tactic(auto, using(crate::proofs::Answering::halts_done, crate::proofs::Answering::misheard_halts, crate::proofs::Answering::channel_of_statement))]
+pub(crate) fn hear_done<L: Link>(channel: &mut Channel<L>, form: Form) -> Result<(), SessionFault>
+    requires alive { channel.old.has_failed ≡ false }
+
+    ensures tells { L.tells channel.old.link ↔ L.tells channel.new.link }
+    ensures counted { IsCounted (L.faults channel.old.link) (L.faults channel.new.link) result }
+    ensures alive { failed_by result ≡ false → channel.new.has_failed ≡ false }
+    ensures fault { IfErr result IsOfStatement }
+    ensures memory { result ≡ Err SessionFault.OutOfMemory → ⊥ }
+    ensures heard { OnOk result (L.tells channel.old.link → HearsReply (Some Reply.Done) (channel_wire L.Link channel.old) (channel_wire L.Link channel.new)) }
+    ensures err { IfErr result (λ fault. L.tells channel.old.link → Halts (done form) (channel_wire L.Link channel.old) fault (channel_wire L.Link channel.new)) }
+{
+    let place = channel.place();
+    let mut reader = RowReader::new();
+    match hear_reply(channel, &mut reader) {
+        Ok(Some(Reply::Done)) => Ok(()),
+        Ok(Some(Reply::Refused(refusal))) => Err(SessionFault::Refused(form, refusal)),
+        Ok(Some(Reply::Columns(_))) => Err(SessionFault::Garbled(place)),
+        Ok(None) => Err(SessionFault::Garbled(place)),
+        Err(fault) => Err(fault),
+    }
+}
+
+// Writes the payload of a command.
+fn write_command(payload: &mut Buffer, command: &Command<'_>) -> Result<(), SessionFault>
+    requires text { CommandHasText command.now }
+
+    ensures bytes { OnOk result (payload.new.bytes ≡ command_payload command.now) }
+    ensures room { length payload.old.bytes + payload.old.spare ≤ length payload.new.bytes + payload.new.spare }
+    ensures fault { IfErr result (λ fault. fault ≡ SessionFault.OutOfMemory) }
+    ensures memory { 1001 ≤ length payload.old.bytes + payload.old.spare → length (command_text command.now) ≤ 1000 → result ≡ Err SessionFault.OutOfMemory → ⊥ }
+{
+    payload.clear();
+    if payload.reserve(1).is_err() {
+        return Err(SessionFault::OutOfMemory);
+    }
+    payload.push_byte(3);
+    match command_into(command, payload) {
+        Ok(()) => Ok(()),
+        Err(_) => Err(SessionFault::OutOfMemory),
+    }
+}
+
+/// Runs a command. Where its text has at most 1,000 bytes, for which there is room, it takes no memory.
+#[tactic(auto, using(crate::proofs::Answering::channel_of_statement))]
+pub(crate) fn run_on<L: Link>(
+    channel: &mut Channel<L>,
+    payload: &mut Buffer,
+    command: &Command<'_>,
+) -> Result<(), SessionFault>
+    requires text { CommandHasText command.now }
+    requires alive { channel.old.has_failed ≡ false }
+
+    ensures tells { L.tells channel.old.link ↔ L.tells channel.new.link }
+    ensures counted { IsCounted (L.faults channel.old.link) (L.faults channel.new.link) result }
+    ensures alive { failed_by result ≡ false → channel.new.has_failed ≡ false }
+    ensures room { length payload.old.bytes + payload.old.spare ≤ length payload.new.bytes + payload.new.spare }
+    ensures fault { IfErr result IsOfStatement }
+    ensures memory { 1001 ≤ length payload.old.bytes + payload.old.spare → length (command_text command.now) ≤ 1000 → result ≡ Err SessionFault.OutOfMemory → ⊥ }
+    ensures runs { L.tells channel.old.link → Runs command.now (channel_wire L.Link channel.old) result (channel_wire L.Link channel.new) }
+{
+    if let Err(fault) = write_command(payload, command) {
+        return Err(fault);
+    }
+    if let Err(fault) = channel.say(0, payload.as_slice()) {
+        return Err(fault);
+    }
+    hear_done(channel, command.form())
+}

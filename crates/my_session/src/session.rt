@@ -1,0 +1,125 @@
+// A session.
+ghost use Rattle.std.specs.Prelude.{◌≡◌, ◌↔◌, ◌≤◌, length, false, IfErr, MatchResult, Err};
+ghost use Rattle.result_rows.specs.Reading.{idle};
+ghost use Rattle.sql_statements.specs.Statement.{CommandHasText};
+ghost use Rattle.sql_statements.specs.Text.{command_text};
+ghost use Rattle.my_session.specs.Session.{Closes, IsCounted, IsOfStatement, LoggedIn, LoginStopped, Runs, failed_by, wire_of};
+
+use crate::channel::Channel;
+use crate::fault::SessionFault;
+use crate::login::log_in;
+use crate::run::run_on;
+use link_traits::Link;
+use result_rows::RowReader;
+use sql_literals::Buffer;
+use sql_statements::{Command, Form};
+use std::alloc::Global;
+use std::marker::Model;
+
+/// COM_QUIT, as it is sent. (MySQL source documentation, `COM_QUIT`.)
+pub const QUIT: &[u8] = b"\x01\x00\x00\x00\x01";
+
+/// A session with a server: a link, on which statements are sent and their replies are read one after
+/// the other.
+#[derive(Drop)]
+pub struct Session<L> {
+    pub(crate) channel: Channel<L>,
+    // The payload that is being sent. Room for a short one is reserved at login.
+    pub(crate) payload: Buffer,
+    // What is pending, and the form of the statement that asked for it.
+    pub(crate) reader: RowReader,
+    pub(crate) form: Form,
+    pub(crate) has_failed: bool,
+}
+
+impl<L> Model for Session<L> {
+    ghost use Rattle.std.specs.Prelude.{◌≡◌, ◌≤◌, ◌+◌, length, false};
+    ghost use Rattle.my_session.specs.Session.{SessionView};
+
+    ghost Value = { SessionView L };
+
+    ghost view = { λ s. record { link = s.channel.link; place = s.channel.place; id = s.channel.id; has_failed = s.has_failed; pending = record { reading = s.reader; form = s.form } } };
+
+    ghost invariant = { λ s. (1001 ≤ length s.payload.bytes + s.payload.spare) × (s.has_failed ≡ false → s.channel.has_failed ≡ false) };
+}
+
+impl<L: Link> Session<L> {
+    /// Reads the greeting, logs this user in by `mysql_native_password`, over another scramble where
+    /// the server asks for that, and sets the session up. A refusal gives the link back.
+    /// `NotProtocol10` exactly where the server's first message begins with neither 10 nor 255, and
+    /// `PluginUnsupported` exactly where the server asks for the login by another plugin; an ERR to
+    /// the login has the form CONNECT. (MySQL source documentation, "Connection Phase".)
+    pub fn login(
+        alloc: Global,
+        link: L,
+        user: &[u8],
+        password: &[u8],
+    ) -> Result<Session<L>, (L, SessionFault)>
+        ensures { MatchResult result (λ session. LoggedIn L.Link user.now password.now link session) (λ gone. LoginStopped L.Link user.now password.now link gone.0 gone.1) }
+    {
+        let mut channel = Channel::new(alloc, link);
+        let mut payload = Buffer::new(alloc);
+        match log_in(alloc, &mut channel, &mut payload, user, password) {
+            Ok(()) => Ok(Session {
+                channel,
+                payload,
+                reader: RowReader::new(),
+                form: Form::Connect,
+                has_failed: false,
+            }),
+            Err(fault) => Err((channel.into_link(), fault)),
+        }
+    }
+
+    /// Runs a command, whose reply is an OK or an ERR; a result set in reply is `Garbled`. The
+    /// conditions are that the session hasn't failed, that no rows are pending, and that the command
+    /// has a text. Where the text has at most 1,000 bytes it takes no memory. (MySQL source
+    /// documentation, `COM_QUERY`, `OK_Packet`, `ERR_Packet`.)
+    pub fn run(&mut self, command: &Command<'_>) -> Result<(), SessionFault>
+        requires text { CommandHasText command.now }
+        requires alive { self.old.has_failed ≡ false }
+        requires none_pending { self.old.pending.reading ≡ idle }
+
+        ensures tells { L.tells self.old.link ↔ L.tells self.new.link }
+        ensures counted { IsCounted (L.faults self.old.link) (L.faults self.new.link) result }
+        ensures failed { self.new.has_failed ≡ failed_by result }
+        ensures pending { self.new.pending.reading ≡ idle }
+        ensures fault { IfErr result IsOfStatement }
+        ensures memory { length (command_text command.now) ≤ 1000 → result ≡ Err SessionFault.OutOfMemory → ⊥ }
+        ensures runs { L.tells self.old.link → Runs command.now (wire_of L.Link self.old) result (wire_of L.Link self.new) }
+    {
+        match run_on(&mut self.channel, &mut self.payload, command) {
+            Ok(()) => Ok(()),
+            Err(fault) => {
+                self.has_failed = fault.ends_session();
+                Err(fault)
+            }
+        }
+    }
+
+    /// Whether the session has failed: a call of it answered another fault than `Refused`. Takes no
+    /// memory.
+    pub fn failed(&self) -> bool
+        ensures { result ≡ self.now.has_failed }
+    {
+        self.has_failed
+    }
+
+    /// Ends the session, and gives its link back. Where the session hasn't failed it sends COM_QUIT,
+    /// whatever comes of that. Takes no memory.
+    pub fn close(self) -> L
+        ensures { Closes L.Link QUIT.now self result }
+    {
+        let Session {
+            mut channel,
+            payload: _,
+            reader: _,
+            form: _,
+            has_failed,
+        } = self;
+        if !has_failed {
+            let _ = channel.send_packets(QUIT, 1);
+        }
+        channel.into_link()
+    }
+}
