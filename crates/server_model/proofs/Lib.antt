@@ -1,0 +1,4 @@
+pub mod Agreements
+pub mod Counts
+pub mod Fronts
+pub mod Orders

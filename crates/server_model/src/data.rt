@@ -1,0 +1,299 @@
+// What a server holds, and how it changes.
+ghost use Rattle.std.specs.Prelude.{◌≡◌, IfOk};
+
+use crate::rows::{CellList, RowList};
+use object_texts::{ColumnList, Kind};
+use plain_data::{OutOfMemory, Plain, PlainList};
+use sql_literals::{Bytes, Name};
+
+/// The settings of a session under which a procedure, a function, a view or a trigger was made. (MySQL 8.0
+/// Reference Manual, 15.1.17, 15.1.22, 15.1.23.)
+#[derive(Debug, Drop)]
+pub struct Settings {
+    /// The mode; a view's is empty.
+    pub sql_mode: Bytes,
+    /// The character set of the client.
+    pub client: Bytes,
+    /// The collation of the connection.
+    pub collation: Bytes,
+}
+
+impl Settings {
+    /// Equal settings. It is refused only for want of memory.
+    pub fn copy(&self) -> Result<Settings, OutOfMemory>
+        ensures { IfOk result (λ made. made ≡ self.now) }
+    {
+        Ok(Settings {
+            sql_mode: self.sql_mode.copy()?,
+            client: self.client.copy()?,
+            collation: self.collation.copy()?,
+        })
+    }
+}
+
+impl Plain for Settings {
+    fn duplicate(&self) -> Result<Settings, OutOfMemory> {
+        self.copy()
+    }
+}
+
+// Equal settings, where there are any.
+fn settings_copy(settings: &Option<Settings>) -> Result<Option<Settings>, OutOfMemory>
+    ensures { IfOk result (λ made. made ≡ settings.now) }
+{
+    match settings {
+        None => Ok(None),
+        Some(settings) => Ok(Some(settings.copy()?)),
+    }
+}
+
+/// A table or a view that something needs, by its schema and its name.
+#[derive(Debug, Drop)]
+pub struct Need {
+    pub schema: Name,
+    pub name: Name,
+}
+
+impl Need {
+    /// An equal need. It is refused only for want of memory.
+    pub fn copy(&self) -> Result<Need, OutOfMemory>
+        ensures { IfOk result (λ made. made ≡ self.now) }
+    {
+        Ok(Need {
+            schema: self.schema.copy()?,
+            name: self.name.copy()?,
+        })
+    }
+}
+
+impl Plain for Need {
+    fn duplicate(&self) -> Result<Need, OutOfMemory> {
+        self.copy()
+    }
+}
+
+pub type NeedList = PlainList<Need>;
+
+/// A schema, table, view, procedure, function or trigger.
+#[derive(Debug, Drop)]
+pub struct Object {
+    pub kind: Kind,
+    /// The schema that it stands in; a schema stands in itself.
+    pub schema: Name,
+    pub name: Name,
+    /// The text that makes it, as SHOW CREATE gives it.
+    pub text: Bytes,
+    pub settings: Option<Settings>,
+    /// A table's columns; empty for other kinds.
+    pub columns: ColumnList,
+    /// Which column is the key.
+    pub key: Option<u32>,
+    /// A trigger's place among the triggers of its table, from 1 on.
+    pub rank: u32,
+    /// What a view needs; a trigger needs its table, which is the first here.
+    pub needs: NeedList,
+}
+
+impl Object {
+    /// An equal object. It is refused only for want of memory.
+    pub fn copy(&self) -> Result<Object, OutOfMemory>
+        ensures { IfOk result (λ made. made ≡ self.now) }
+    {
+        Ok(Object {
+            kind: self.kind,
+            schema: self.schema.copy()?,
+            name: self.name.copy()?,
+            text: self.text.copy()?,
+            settings: settings_copy(&self.settings)?,
+            columns: self.columns.copy()?,
+            key: self.key,
+            rank: self.rank,
+            needs: self.needs.copy()?,
+        })
+    }
+}
+
+impl Plain for Object {
+    fn duplicate(&self) -> Result<Object, OutOfMemory> {
+        self.copy()
+    }
+}
+
+pub type ObjectList = PlainList<Object>;
+
+/// A position of the binary log. (MySQL 8.0 Reference Manual, 15.7.7.23 "SHOW MASTER STATUS Statement".)
+#[derive(Debug, Drop)]
+pub struct Position {
+    pub file: Bytes,
+    pub offset: u64,
+    /// The GTID set, without line feeds.
+    pub gtid: Bytes,
+}
+
+impl Position {
+    /// An equal position. It is refused only for want of memory.
+    pub fn copy(&self) -> Result<Position, OutOfMemory>
+        ensures { IfOk result (λ made. made ≡ self.now) }
+    {
+        Ok(Position {
+            file: self.file.copy()?,
+            offset: self.offset,
+            gtid: self.gtid.copy()?,
+        })
+    }
+}
+
+impl Plain for Position {
+    fn duplicate(&self) -> Result<Position, OutOfMemory> {
+        self.copy()
+    }
+}
+
+// An equal position, where there is one.
+fn position_copy(position: &Option<Position>) -> Result<Option<Position>, OutOfMemory>
+    ensures { IfOk result (λ made. made ≡ position.now) }
+{
+    match position {
+        None => Ok(None),
+        Some(position) => Ok(Some(position.copy()?)),
+    }
+}
+
+/// A change of what a server holds.
+#[derive(Debug, Drop)]
+pub enum Change {
+    /// An object is made.
+    Make(Object),
+    /// An object is dropped, a table with its rows.
+    Drop {
+        kind: Kind,
+        schema: Name,
+        name: Name,
+    },
+    /// A row is put into a table.
+    Put {
+        schema: Name,
+        table: Name,
+        row: CellList,
+    },
+    /// A row is taken out of a table, once.
+    Remove {
+        schema: Name,
+        table: Name,
+        row: CellList,
+    },
+}
+
+impl Change {
+    /// An equal change. It is refused only for want of memory.
+    pub fn copy(&self) -> Result<Change, OutOfMemory>
+        ensures { IfOk result (λ made. made ≡ self.now) }
+    {
+        match self {
+            Change::Make(object) => Ok(Change::Make(object.copy()?)),
+            Change::Drop { kind, schema, name } => Ok(Change::Drop {
+                kind: *kind,
+                schema: schema.copy()?,
+                name: name.copy()?,
+            }),
+            Change::Put { schema, table, row } => Ok(Change::Put {
+                schema: schema.copy()?,
+                table: table.copy()?,
+                row: row.copy()?,
+            }),
+            Change::Remove { schema, table, row } => Ok(Change::Remove {
+                schema: schema.copy()?,
+                table: table.copy()?,
+                row: row.copy()?,
+            }),
+        }
+    }
+}
+
+impl Plain for Change {
+    fn duplicate(&self) -> Result<Change, OutOfMemory> {
+        self.copy()
+    }
+}
+
+pub type ChangeList = PlainList<Change>;
+
+/// What is committed at once, and the position of the binary log behind it, where one is known.
+#[derive(Debug, Drop)]
+pub struct Transaction {
+    pub changes: ChangeList,
+    pub mark: Option<Position>,
+}
+
+impl Transaction {
+    /// An equal transaction. It is refused only for want of memory.
+    pub fn copy(&self) -> Result<Transaction, OutOfMemory>
+        ensures { IfOk result (λ made. made ≡ self.now) }
+    {
+        Ok(Transaction {
+            changes: self.changes.copy()?,
+            mark: position_copy(&self.mark)?,
+        })
+    }
+}
+
+impl Plain for Transaction {
+    fn duplicate(&self) -> Result<Transaction, OutOfMemory> {
+        self.copy()
+    }
+}
+
+/// Committed transactions, in their order.
+pub type History = PlainList<Transaction>;
+
+/// Rows of a table.
+#[derive(Debug, Drop)]
+pub struct TableRows {
+    pub table: Need,
+    pub rows: RowList,
+}
+
+impl TableRows {
+    /// An equal list of rows of the same table. It is refused only for want of memory.
+    pub fn copy(&self) -> Result<TableRows, OutOfMemory>
+        ensures { IfOk result (λ made. made ≡ self.now) }
+    {
+        Ok(TableRows {
+            table: self.table.copy()?,
+            rows: self.rows.copy()?,
+        })
+    }
+}
+
+impl Plain for TableRows {
+    fn duplicate(&self) -> Result<TableRows, OutOfMemory> {
+        self.copy()
+    }
+}
+
+pub type TableList = PlainList<TableRows>;
+
+/// Objects and rows. A table that stands in `rows` twice has the rows of both.
+#[derive(Debug, Drop)]
+pub struct Database {
+    pub objects: ObjectList,
+    pub rows: TableList,
+}
+
+impl Database {
+    /// An equal database. It is refused only for want of memory.
+    pub fn copy(&self) -> Result<Database, OutOfMemory>
+        ensures { IfOk result (λ made. made ≡ self.now) }
+    {
+        Ok(Database {
+            objects: self.objects.copy()?,
+            rows: self.rows.copy()?,
+        })
+    }
+}
+
+impl Plain for Database {
+    fn duplicate(&self) -> Result<Database, OutOfMemory> {
+        self.copy()
+    }
+}

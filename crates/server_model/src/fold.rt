@@ -1,0 +1,381 @@
+// The database after a history.
+ghost use Rattle.std.specs.Prelude.{◌≡◌, ◌++◌, IfOk, Some, None, filter, if◌then◌else◌, length, not};
+ghost use Rattle.std.specs.List.{list_any};
+ghost use Rattle.object_texts.specs.declared.head.Kind.TheVariants.{Schema, Table};
+ghost use Rattle.server_model.specs.declared.data.Change.TheVariants.{Make, Drop, Put, Remove};
+ghost use Rattle.server_model.specs.Equal.{kind_eq};
+ghost use Rattle.server_model.specs.Fold.{change_db, changes_db, db, fits_row, has_object, has_place, is_object, is_of_table, is_plain, may_drop, may_make, plain_count, stands_in, takes_row, without_first, without_row};
+
+use crate::data::{Change, Database, History, Need, Object, ObjectList, TableList, TableRows};
+use crate::equal::{are_bytes, is_kind, is_row};
+use crate::find::{has_object, has_table_of, is_object, is_of_table};
+use crate::lists::{append, push_if};
+use crate::rows::{CellList, RowList};
+use object_texts::{Column, Kind};
+use plain_data::{OutOfMemory, PlainList};
+use sql_literals::{Cell, Name};
+use std::alloc::Global;
+
+/// The database after the history, which starts with nothing; None where a change doesn't fit. It is
+/// refused only for want of memory.
+pub fn replay(alloc: Global, history: &History) -> Result<Option<Database>, OutOfMemory>
+    ensures { IfOk result (λ found. found ≡ db history.now) }
+{
+    let mut database = Database {
+        objects: PlainList::new(alloc),
+        rows: PlainList::new(alloc),
+    };
+    let mut left = history.as_slice();
+    'history: while let [transaction, rest @ ..] = left {
+        if !apply_all(alloc, &mut database, transaction.changes.as_slice())? {
+            return Ok(None);
+        }
+        left = rest;
+    }
+    Ok(Some(database))
+}
+
+// Whether the changes fit, one by one. Where they do, the database is the one after them.
+fn apply_all(
+    alloc: Global,
+    database: &mut Database,
+    changes: &[Change],
+) -> Result<bool, OutOfMemory>
+    ensures { IfOk result (λ fits. changes_db database.old changes.now ≡ (if fits then Some database.new else None)) }
+{
+    let mut left = changes;
+    'changes: while let [change, rest @ ..] = left {
+        if !apply(alloc, database, change)? {
+            return Ok(false);
+        }
+        left = rest;
+    }
+    Ok(true)
+}
+
+fn apply(alloc: Global, database: &mut Database, change: &Change) -> Result<bool, OutOfMemory>
+    ensures { IfOk result (λ fits. change_db database.old change.now ≡ (if fits then Some database.new else None)) }
+{
+    match change {
+        Change::Make(object) => make(database, object),
+        Change::Drop { kind, schema, name } => drop_object(alloc, database, *kind, schema, name),
+        Change::Put { schema, table, row } => put(alloc, database, schema, table, row),
+        Change::Remove { schema, table, row } => remove(alloc, database, schema, table, row),
+    }
+}
+
+#[tactic(auto, unfolding(crate::specs::Fold::change_db))]
+fn make(database: &mut Database, object: &Object) -> Result<bool, OutOfMemory>
+    ensures { IfOk result (λ fits. change_db database.old (Make object.now) ≡ (if fits then Some database.new else None)) }
+{
+    if !may_make(database, object) {
+        return Ok(false);
+    }
+    database.objects.push(object.copy()?)?;
+    Ok(true)
+}
+
+#[tactic(auto, unfolding(crate::specs::Fold::change_db))]
+fn drop_object(
+    alloc: Global,
+    database: &mut Database,
+    kind: Kind,
+    schema: &Name,
+    name: &Name,
+) -> Result<bool, OutOfMemory>
+    ensures { IfOk result (λ fits. change_db database.old (Drop kind schema.now name.now) ≡ (if fits then Some database.new else None)) }
+{
+    if !may_drop(database, kind, schema.as_slice(), name.as_slice()) {
+        return Ok(false);
+    }
+    database.objects = objects_without(
+        alloc,
+        database.objects.as_slice(),
+        kind,
+        schema.as_slice(),
+        name.as_slice(),
+    )?;
+    database.rows = tables_behind(
+        alloc,
+        database.rows.as_slice(),
+        kind,
+        schema.as_slice(),
+        name.as_slice(),
+    )?;
+    Ok(true)
+}
+
+#[tactic(auto, unfolding(crate::specs::Fold::change_db))]
+fn put(
+    alloc: Global,
+    database: &mut Database,
+    schema: &Name,
+    table: &Name,
+    row: &CellList,
+) -> Result<bool, OutOfMemory>
+    ensures { IfOk result (λ fits. change_db database.old (Put schema.now table.now row.now) ≡ (if fits then Some database.new else None)) }
+{
+    if !fits_row(
+        database,
+        schema.as_slice(),
+        table.as_slice(),
+        row.as_slice(),
+    ) {
+        return Ok(false);
+    }
+    let mut rows = PlainList::new(alloc);
+    rows.push(row.copy()?)?;
+    database.rows.push(TableRows {
+        table: Need {
+            schema: schema.copy()?,
+            name: table.copy()?,
+        },
+        rows,
+    })?;
+    Ok(true)
+}
+
+#[tactic(auto, unfolding(crate::specs::Fold::change_db))]
+fn remove(
+    alloc: Global,
+    database: &mut Database,
+    schema: &Name,
+    table: &Name,
+    row: &CellList,
+) -> Result<bool, OutOfMemory>
+    ensures { IfOk result (λ fits. change_db database.old (Remove schema.now table.now row.now) ≡ (if fits then Some database.new else None)) }
+{
+    if !has_object(database, Kind::Table, schema.as_slice(), table.as_slice()) {
+        return Ok(false);
+    }
+    let found = without_row(
+        alloc,
+        schema.as_slice(),
+        table.as_slice(),
+        row.as_slice(),
+        database.rows.as_slice(),
+    )?;
+    match found {
+        None => Ok(false),
+        Some(rows) => {
+            database.rows = rows;
+            Ok(true)
+        }
+    }
+}
+
+#[tactic(auto, unfolding(crate::specs::Fold::may_make))]
+fn may_make(database: &Database, object: &Object) -> bool
+    ensures { result ≡ may_make database.now object.now }
+{
+    !has_object(
+        database,
+        object.kind,
+        object.schema.as_slice(),
+        object.name.as_slice(),
+    ) && has_place(database, object)
+}
+
+fn has_place(database: &Database, object: &Object) -> bool
+    ensures { result ≡ has_place database.now object.now object.now.kind }
+{
+    match object.kind {
+        Kind::Schema => true,
+        Kind::Table => has_schema(database, object.schema.as_slice()),
+        Kind::Procedure => has_schema(database, object.schema.as_slice()),
+        Kind::Function => has_schema(database, object.schema.as_slice()),
+        Kind::View => has_schema(database, object.schema.as_slice()),
+        Kind::Trigger => {
+            has_schema(database, object.schema.as_slice())
+                && has_table_of(database, object.needs.as_slice())
+        }
+    }
+}
+
+fn has_schema(database: &Database, schema: &[u8]) -> bool
+    ensures { result ≡ has_object database.now Schema schema.now schema.now }
+{
+    has_object(database, Kind::Schema, schema, schema)
+}
+
+#[tactic(auto, unfolding(crate::specs::Fold::may_drop))]
+fn may_drop(database: &Database, kind: Kind, schema: &[u8], name: &[u8]) -> bool
+    ensures { result ≡ may_drop database.now kind schema.now name.now }
+{
+    has_object(database, kind, schema, name)
+        && !(is_kind(kind, Kind::Schema) && has_any_in(database, schema))
+}
+
+// Something stands in the schema.
+fn has_any_in(database: &Database, schema: &[u8]) -> bool
+    ensures { result ≡ list_any (stands_in schema.now) database.now.objects }
+{
+    let objects = database.objects.as_slice();
+    objects.iter().any(|object| stands_in(schema, object))
+}
+
+fn stands_in(schema: &[u8], object: &Object) -> bool
+    ensures { result ≡ stands_in schema.now object.now }
+{
+    are_bytes(object.schema.as_slice(), schema) && !is_kind(object.kind, Kind::Schema)
+}
+
+fn fits_row(database: &Database, schema: &[u8], name: &[u8], row: &[Cell]) -> bool
+    ensures { result ≡ fits_row database.now schema.now name.now row.now }
+{
+    let cells = row.len();
+    let objects = database.objects.as_slice();
+    objects
+        .iter()
+        .any(|object| takes_row(schema, name, cells, object))
+}
+
+fn takes_row(schema: &[u8], name: &[u8], cells: usize, object: &Object) -> bool
+    ensures { result ≡ takes_row schema.now name.now cells object.now }
+{
+    is_object(Kind::Table, schema, name, object) && plain_count(object.columns.as_slice()) == cells
+}
+
+fn plain_count(columns: &[Column]) -> usize
+    ensures { result ≡ plain_count columns.now }
+{
+    columns.iter().filter(|column| is_plain(column)).count()
+}
+
+fn is_plain(column: &Column) -> bool
+    ensures { result ≡ is_plain column.now }
+{
+    !column.generated
+}
+
+#[tactic(auto, using(crate::proofs::Fronts::kept))]
+fn objects_without(
+    alloc: Global,
+    objects: &[Object],
+    kind: Kind,
+    schema: &[u8],
+    name: &[u8],
+) -> Result<ObjectList, OutOfMemory>
+    ensures { IfOk result (λ made. made ≡ filter (λ object. not (is_object kind schema.now name.now object)) objects.now) }
+{
+    let mut made = PlainList::new(alloc);
+    let mut left = objects;
+    'objects: while let [object, rest @ ..] = left {
+        push_if(!is_object(kind, schema, name, object), &mut made, object)?;
+        left = rest;
+    }
+    Ok(made)
+}
+
+// The rows that stay where such an object is dropped.
+fn tables_behind(
+    alloc: Global,
+    tables: &[TableRows],
+    kind: Kind,
+    schema: &[u8],
+    name: &[u8],
+) -> Result<TableList, OutOfMemory>
+    ensures { IfOk result (λ made. made ≡ (if kind_eq kind Table then filter (λ rows. not (is_of_table schema.now name.now rows)) tables.now else tables.now)) }
+{
+    if is_kind(kind, Kind::Table) {
+        tables_without(alloc, tables, schema, name)
+    } else {
+        let mut made = PlainList::new(alloc);
+        append(&mut made, tables)?;
+        Ok(made)
+    }
+}
+
+#[tactic(auto, using(crate::proofs::Fronts::kept))]
+fn tables_without(
+    alloc: Global,
+    tables: &[TableRows],
+    schema: &[u8],
+    name: &[u8],
+) -> Result<TableList, OutOfMemory>
+    ensures { IfOk result (λ made. made ≡ filter (λ rows. not (is_of_table schema.now name.now rows)) tables.now) }
+{
+    let mut made = PlainList::new(alloc);
+    let mut left = tables;
+    'tables: while let [rows, rest @ ..] = left {
+        push_if(!is_of_table(schema, name, rows), &mut made, rows)?;
+        left = rest;
+    }
+    Ok(made)
+}
+
+// The rows without the first that is equal to this one.
+#[tactic(auto, using(crate::proofs::Fronts::more_in_front))]
+fn without_first(
+    alloc: Global,
+    row: &[Cell],
+    rows: &[CellList],
+) -> Result<Option<RowList>, OutOfMemory>
+    ensures { IfOk result (λ made. made ≡ without_first row.now rows.now) }
+{
+    let mut front = PlainList::new(alloc);
+    let mut left = rows;
+    'rows: while let [one, rest @ ..] = left {
+        if is_row(row, one.as_slice()) {
+            append(&mut front, rest)?;
+            return Ok(Some(front));
+        }
+        front.push(one.copy()?)?;
+        left = rest;
+    }
+    Ok(None)
+}
+
+// The same where these are the rows of the table.
+fn taken_out(
+    alloc: Global,
+    schema: &[u8],
+    name: &[u8],
+    row: &[Cell],
+    rows: &TableRows,
+) -> Result<Option<RowList>, OutOfMemory>
+    ensures { IfOk result (λ made. made ≡ (if is_of_table schema.now name.now rows.now then without_first row.now rows.now.rows else None)) }
+{
+    if is_of_table(schema, name, rows) {
+        without_first(alloc, row, rows.rows.as_slice())
+    } else {
+        Ok(None)
+    }
+}
+
+// The same table with other rows.
+fn with_rows(one: &TableRows, rows: RowList) -> Result<TableRows, OutOfMemory>
+    ensures { IfOk result (λ made. made ≡ record { table = one.now.table; rows = rows }) }
+{
+    Ok(TableRows {
+        table: one.table.copy()?,
+        rows,
+    })
+}
+
+#[tactic(auto, using(crate::proofs::Fronts::not_here, crate::proofs::Fronts::is_here))]
+fn without_row(
+    alloc: Global,
+    schema: &[u8],
+    name: &[u8],
+    row: &[Cell],
+    tables: &[TableRows],
+) -> Result<Option<TableList>, OutOfMemory>
+    ensures { IfOk result (λ made. made ≡ without_row schema.now name.now row.now tables.now) }
+{
+    let mut front = PlainList::new(alloc);
+    let mut left = tables;
+    'tables: while let [one, rest @ ..] = left {
+        let here = taken_out(alloc, schema, name, row, one)?;
+        match here {
+            Some(rows) => {
+                front.push(with_rows(one, rows)?)?;
+                append(&mut front, rest)?;
+                return Ok(Some(front));
+            }
+            None => front.push(one.copy()?)?,
+        }
+        left = rest;
+    }
+    Ok(None)
+}
