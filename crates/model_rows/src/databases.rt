@@ -1,4 +1,5 @@
 // Histories that are folded, databases that are compared, and a choice.
+ghost use Rattle.std.specs.Prelude.{◌≡◌, None};
 
 use object_texts::{Column, Kind};
 use plain_data::{OutOfMemory, PlainList};
@@ -172,7 +173,9 @@ fn it_counts_how_often_a_row_stands(rt: HostRuntime) -> Result<(), Fail> {
     Ok(())
 }
 
-fn chosen(alloc: Global, tables: NeedList) -> Choice {
+fn chosen(alloc: Global, tables: NeedList) -> Choice
+    ensures { result.pattern ≡ None }
+{
     Choice {
         databases: PlainList::new(alloc),
         tables,
