@@ -1,138 +1,212 @@
 -- What a server sends in a dump turns out to be one thing.
-use Rattle.std.proofs.Common.{◌≡◌, ℕ, List, ◌++◌, refl, sym, ◌∙◌, ap, subst, inl, inr}
-use Rattle.my_packets.specs.Front.{HasMessage, IsPart}
-use Rattle.my_packets.specs.Packet.{packets}
-use Rattle.my_packets.proofs.Fronts.{same_packets, one_front}
-use Rattle.result_rows.specs.declared.refusal.Refusal.{Refusal}
+use Rattle.std.proofs.Common.{◌≡◌, ◌<◌, ◌≤◌, ◌⊎◌, ℕ, List, length, Option, Some, None, refl, sym, ◌∙◌, ap, subst, inl, inr, arith}
+use Rattle.my_packets.specs.Front.{IsTooLong}
+use Rattle.my_session.proofs.OneNext.{one_next}
+use Rattle.my_session.specs.Awaited.{Awaited, fault_at}
+use Rattle.my_session.specs.Laws.{HasOneNext}
+use Rattle.my_session.specs.Wire.{Wire, Hears, behind_sent, within}
+use Rattle.my_session.specs.declared.fault.SessionFault.{SessionFault}
+use Rattle.my_session.specs.declared.fault.SessionFault.TheVariants.{Garbled, TooLong, StreamTooLong}
+use Rattle.my_session.specs.declared.limits.TheConstants.{MESSAGE_LIMIT}
 use Rattle.sql_literals.specs.Literal.{Cell}
-use Rattle.dumper_cli.specs.Heard.{Leads, at_start, further, Comes, IsWrong, Misframed, Unfinished}
-use Rattle.dumper_cli.specs.Outcomes.{HasOneOutcome}
-use Rattle.dumper_cli.specs.Place.{Place, Turn, greeting, more, whole, stopped, unread, id_of, turn_of}
+use Rattle.dumper_cli.specs.Course.{Comes, at_start, commanded, answered, heard, IsWhole, IsUnfit, IsOverlong, EndsAt, at_message, at_unfit, at_disorder, at_length, at_limit, EndsWith, awaiting_it, sending_it, HasOneOutcome}
+use Rattle.dumper_cli.specs.Stage.{Stage, Doing, awaits_greeting, is_over, commanding, answering, awaiting, nothing, doing, behind}
 use Rattle.dumper_cli.specs.Words.{Asked}
 use Rattle.dumper_cli.specs.declared.column.Column.{Column}
-use Rattle.dumper_cli.specs.declared.session.TheConstants.{MESSAGE_LIMIT}
 
--- the dump doesn't go on with the message that the bytes begin
-abbrev Stops : Asked → Place → List ℕ → Type 0
-Stops asked place bytes = (next : Place) (message behind : List ℕ) → HasMessage MESSAGE_LIMIT (id_of place) message bytes behind → turn_of asked place message ≡ more next → ⊥
+-- one step of a dump: a payload is sent, or a message is heard
+data Moves (asked : Asked) (stage : Stage) (wire : Wire) : Stage → Wire → Type 0 where
+  commands : {next : Stage} {payload : List ℕ} → doing asked stage ≡ commanding payload next → length payload ≤ MESSAGE_LIMIT → Moves asked stage wire next (behind_sent 0 payload wire)
+  answers : {next : Stage} {payload : List ℕ} → doing asked stage ≡ answering payload next → length payload ≤ MESSAGE_LIMIT → Moves asked stage wire next (behind_sent wire.id payload wire)
+  hears : {next : Stage} {new : Wire} {message : List ℕ} {awaited : Awaited} → doing asked stage ≡ awaiting awaited → Hears message wire new → fault_at awaited wire.place message ≡ None → behind stage message ≡ Some next → Moves asked stage wire next new
 
--- the whole messages at the front of the bytes lead from a place to the end, and those bytes are left
-data Onward (asked : Asked) (end : Place) (left : List ℕ) : Place → List ℕ → Type 0 where
-  here : Onward asked end left end left
-  step : {place next : Place} {message bytes behind : List ℕ} → HasMessage MESSAGE_LIMIT (id_of place) message bytes behind → turn_of asked place message ≡ more next → Onward asked end left next behind → Onward asked end left place bytes
+same_commanding : (is : Doing) (payload other : List ℕ) (next also : Stage) → is ≡ commanding payload next → is ≡ commanding other also → (payload ≡ other) × (next ≡ also)
+same_commanding is payload other next also a b = (cc, cc)
 
-onward : (asked : Asked) (heard : List ℕ) (end : Place) (left : List ℕ) (place : Place) (bytes : List ℕ) → Leads asked heard place bytes → Onward asked end left place bytes → Onward asked end left greeting heard
-onward asked heard end left place bytes at_start on = on
-onward asked heard end left place bytes (further {place = before} {bytes = seen} leads packet_is turns) on = onward asked heard end left before seen leads (step packet_is turns on)
+same_answering : (is : Doing) (payload other : List ℕ) (next also : Stage) → is ≡ answering payload next → is ≡ answering other also → (payload ≡ other) × (next ≡ also)
+same_answering is payload other next also a b = (cc, cc)
 
-moved : (place again : Place) (bytes seen message behind : List ℕ) → place ≡ again → bytes ≡ seen → HasMessage MESSAGE_LIMIT (id_of again) message seen behind → HasMessage MESSAGE_LIMIT (id_of place) message bytes behind
-moved place again bytes seen message behind same_place same_bytes packet_is = record {
-  short = packet_is.short;
-  bytes_are = same_bytes ∙ packet_is.bytes_are ∙ ap (λ (p : Place). packets (id_of p) message ++ behind) (sym same_place);
-}
+same_awaiting : (is : Doing) (awaited other : Awaited) → is ≡ awaiting awaited → is ≡ awaiting other → awaited ≡ other
+same_awaiting is awaited other a b = cc
 
--- two messages at one place that begin the same bytes
-one_message : (id : ℕ) (message other bytes behind rest : List ℕ) → HasMessage MESSAGE_LIMIT id message bytes behind → HasMessage MESSAGE_LIMIT id other bytes rest → (message ≡ other) × (behind ≡ rest)
-one_message id message other bytes behind rest is also = same_packets id message other behind rest (sym is.bytes_are ∙ also.bytes_are)
+same_stage : (found : Option Stage) (next also : Stage) → found ≡ Some next → found ≡ Some also → next ≡ also
+same_stage found next also a b = cc
 
-same_next : (turn : Turn) (next other : Place) → turn ≡ more next → turn ≡ more other → next ≡ other
-same_next turn next other is also = cc
+-- two steps from the same are one
+one_move : (asked : Asked) (stage : Stage) (wire : Wire) (next also : Stage) (new other : Wire) → Moves asked stage wire next new → Moves asked stage wire also other → (next ≡ also) × (new ≡ other)
+one_move asked stage wire next also new other (commands {payload = payload} is short) (commands {payload = second} too fits) =
+    let same = same_commanding (doing asked stage) payload second next also is too in
+    (same.1, ap (λ (l : List ℕ). behind_sent 0 l wire) same.0)
+one_move asked stage wire next also new other (commands is short) (answers too fits) = absurd (cc)
+one_move asked stage wire next also new other (commands is short) (hears too second goes_on turns) = absurd (cc)
+one_move asked stage wire next also new other (answers is short) (commands too fits) = absurd (cc)
+one_move asked stage wire next also new other (answers {payload = payload} is short) (answers {payload = second} too fits) =
+    let same = same_answering (doing asked stage) payload second next also is too in
+    (same.1, ap (λ (l : List ℕ). behind_sent wire.id l wire) same.0)
+one_move asked stage wire next also new other (answers is short) (hears too second goes_on turns) = absurd (cc)
+one_move asked stage wire next also new other (hears is first goes_on turns) (commands too fits) = absurd (cc)
+one_move asked stage wire next also new other (hears is first goes_on turns) (answers too fits) = absurd (cc)
+one_move asked stage wire next also new other (hears {message = message} is first goes_on turns) (hears {message = second} too later goes_on_too turns_too) =
+    let same = (one_next wire).one_message message second new other first later in
+    (same_stage (behind stage message) next also turns (ap (λ (m : List ℕ). behind stage m) same.0 ∙ turns_too), same.1)
 
--- two ways from the same to where they stop end at the same
-meet : (asked : Asked) (end other : Place) (left rest : List ℕ) (place again : Place) (bytes seen : List ℕ) → Stops asked end left → Stops asked other rest → place ≡ again → bytes ≡ seen → Onward asked end left place bytes → Onward asked other rest again seen → (end ≡ other) × (left ≡ rest)
-meet asked end other left rest place again bytes seen stops ends same_place same_bytes here here = (same_place, same_bytes)
-meet asked end other left rest place again bytes seen stops ends same_place same_bytes here (step {next = next} {message = message} {behind = behind} packet_is turns on) =
-    absurd (stops next message behind (moved place again bytes seen message behind same_place same_bytes packet_is) (ap (λ (p : Place). turn_of asked p message) same_place ∙ turns))
-meet asked end other left rest place again bytes seen stops ends same_place same_bytes (step {next = next} {message = message} {behind = behind} packet_is turns on) here =
-    absurd (ends next message behind (moved again place seen bytes message behind (sym same_place) (sym same_bytes) packet_is) (ap (λ (p : Place). turn_of asked p message) (sym same_place) ∙ turns))
-meet asked end other left rest place again bytes seen stops ends same_place same_bytes (step {next = next} {message = message} {behind = behind} packet_is turns on) (step {next = later} {message = second} {behind = beyond} packet_too turns_too on_too) =
-    let same = one_message (id_of place) message second bytes behind beyond packet_is (moved place again bytes seen second beyond same_place same_bytes packet_too) in
-    meet asked end other left rest next later behind beyond stops ends
-    (same_next (turn_of asked place message) next later turns (ap (λ (m : List ℕ). turn_of asked place m) same.0 ∙ ap (λ (p : Place). turn_of asked p second) same_place ∙ turns_too))
-    same.1 on on_too
+-- the steps that lead to an end
+data Onward (asked : Asked) (end : Stage) (last : Wire) : Stage → Wire → Type 0 where
+  here : Onward asked end last end last
+  step : {stage next : Stage} {wire new : Wire} → Moves asked stage wire next new → Onward asked end last next new → Onward asked end last stage wire
 
-met : (asked : Asked) (heard : List ℕ) (end other : Place) (left rest : List ℕ) → Stops asked end left → Stops asked other rest → Leads asked heard end left → Leads asked heard other rest → (end ≡ other) × (left ≡ rest)
-met asked heard end other left rest stops ends leads also =
-    meet asked end other left rest greeting greeting heard heard stops ends refl refl (onward asked heard end left end left leads here) (onward asked heard other rest other rest also here)
+onward : (asked : Asked) (start : Wire) (end : Stage) (last : Wire) (stage : Stage) (wire : Wire) → Comes asked start stage wire → Onward asked end last stage wire → Onward asked end last awaits_greeting start
+onward asked start end last stage wire at_start on = on
+onward asked start end last stage wire (commanded {stage = before} {wire = old} comes is short) on = onward asked start end last before old comes (step (commands is short) on)
+onward asked start end last stage wire (answered {stage = before} {wire = old} comes is short) on = onward asked start end last before old comes (step (answers is short) on)
+onward asked start end last stage wire (heard {stage = before} {wire = old} comes is first goes_on turns) on = onward asked start end last before old comes (step (hears is first goes_on turns) on)
 
--- the dump is over with that turn
-abbrev IsLast : Turn → Type 0
-IsLast turn = (next : Place) → turn ≡ more next → ⊥
+-- the dump doesn't go on
+abbrev Rests : Asked → Stage → Wire → Type 0
+Rests asked stage wire = (next : Stage) (new : Wire) → ¬ Moves asked stage wire next new
 
-whole_is_last : (columns : List Column) (rows : List (List Cell)) → IsLast (whole columns rows)
-whole_is_last columns rows next e = cc
+moved : (asked : Asked) (stage again : Stage) (wire seen : Wire) (next : Stage) (new : Wire) → stage ≡ again → wire ≡ seen → Moves asked again seen next new → Moves asked stage wire next new
+moved asked stage again wire seen next new same_stage same_wire moves = subst (λ (s : Stage). Moves asked s wire next new) (sym same_stage) (subst (λ (w : Wire). Moves asked again w next new) (sym same_wire) moves)
 
-stopped_is_last : (refusal : Refusal) → IsLast (stopped refusal)
-stopped_is_last refusal next e = cc
+-- two ways from the same to where they rest end at the same
+meet : (asked : Asked) (end other : Stage) (last final : Wire) (stage again : Stage) (wire seen : Wire) → Rests asked end last → Rests asked other final → stage ≡ again → wire ≡ seen → Onward asked end last stage wire → Onward asked other final again seen → (end ≡ other) × (last ≡ final)
+meet asked end other last final stage again wire seen rests stays same_stage same_wire here here = (same_stage, same_wire)
+meet asked end other last final stage again wire seen rests stays same_stage same_wire here (step {next = next} {new = new} moves on) = absurd (rests next new (moved asked stage again wire seen next new same_stage same_wire moves))
+meet asked end other last final stage again wire seen rests stays same_stage same_wire (step {next = next} {new = new} moves on) here = absurd (stays next new (moved asked again stage seen wire next new (sym same_stage) (sym same_wire) moves))
+meet asked end other last final stage again wire seen rests stays same_stage same_wire (step {next = next} {new = new} moves on) (step {next = later} {new = also} too on_too) =
+    let same = one_move asked stage wire next later new also moves (moved asked stage again wire seen later also same_stage same_wire too) in
+    meet asked end other last final next later new also rests stays same.0 same.1 on on_too
 
-unread_is_last : IsLast unread
-unread_is_last next e = cc
+met : (asked : Asked) (start : Wire) (end other : Stage) (last final : Wire) → Rests asked end last → Rests asked other final → Comes asked start end last → Comes asked start other final → (end ≡ other) × (last ≡ final)
+met asked start end other last final rests stays comes also = meet asked end other last final awaits_greeting awaits_greeting start start rests stays refl refl (onward asked start end last end last comes here) (onward asked start other final other final also here)
 
--- a message that isn't right, or isn't whole
-abbrev IsBroken : ℕ → List ℕ → Type 0
-IsBroken id bytes = (message behind : List ℕ) → HasMessage MESSAGE_LIMIT id message bytes behind → ⊥
+-- ---- where a dump rests
 
-wrong_is_broken : (id : ℕ) (bytes : List ℕ) → IsWrong id bytes → IsBroken id bytes
-wrong_is_broken id bytes (inl wrong) message behind is = (one_front MESSAGE_LIMIT id bytes).message_is_right wrong.0 wrong.1 message behind is wrong.2
-wrong_is_broken id bytes (inr long) message behind is = (one_front MESSAGE_LIMIT id bytes).message_is_short long.0 message behind is long.1
+over_rests : (asked : Asked) (columns : List Column) (rows : List (List Cell)) (wire : Wire) → Rests asked (is_over columns rows) wire
+over_rests asked columns rows wire next new (commands is short) = absurd (cc)
+over_rests asked columns rows wire next new (answers is short) = absurd (cc)
+over_rests asked columns rows wire next new (hears is first goes_on turns) = absurd (cc)
 
-part_is_broken : (id left : ℕ) (bytes : List ℕ) → IsPart MESSAGE_LIMIT id left bytes → IsBroken id bytes
-part_is_broken id left bytes part message behind is = (one_front MESSAGE_LIMIT id bytes).message_is_whole left message behind is part
+none_is_some : {A : Type 0} (found : Option A) (value : A) → found ≡ None → found ≡ Some value → ⊥
+none_is_some found value none some = cc
 
-wrong_is_no_part : (id left : ℕ) (bytes : List ℕ) → IsWrong id bytes → IsPart MESSAGE_LIMIT id left bytes → ⊥
-wrong_is_no_part id left bytes (inl wrong) part = (one_front MESSAGE_LIMIT id bytes).wrong_is_whole wrong.0 wrong.1 left wrong.2 part
-wrong_is_no_part id left bytes (inr long) part = (one_front MESSAGE_LIMIT id bytes).long_is_whole long.0 left long.1 part
+ends_at_rests : (asked : Asked) (stage : Stage) (awaited : Awaited) (wire : Wire) (fault : SessionFault) → doing asked stage ≡ awaiting awaited → EndsAt stage awaited wire fault → Rests asked stage wire
+ends_at_rests asked stage awaited wire fault awaits ends next new (commands is short) = absurd (cc)
+ends_at_rests asked stage awaited wire fault awaits ends next new (answers is short) = absurd (cc)
+ends_at_rests asked stage awaited wire fault awaits (at_message {new = old} why) next new (hears {message = message} {awaited = also} is first goes_on turns) =
+    let same = (one_next wire).one_message message why.message new old first why.heard in
+    none_is_some (fault_at also wire.place message) fault goes_on (ap (λ (a : Awaited). fault_at a wire.place message) (same_awaiting (doing asked stage) also awaited is awaits) ∙ ap (λ (m : List ℕ). fault_at awaited wire.place m) same.0 ∙ why.fault_is)
+ends_at_rests asked stage awaited wire fault awaits (at_unfit why) next new (hears {message = message} is first goes_on turns) =
+    let same = (one_next wire).one_message message why.message new why.new first why.hears in
+    none_is_some (behind stage message) next (ap (λ (m : List ℕ). behind stage m) same.0 ∙ why.unfit) turns
+ends_at_rests asked stage awaited wire fault awaits (at_disorder why) next new (hears {message = message} is first goes_on turns) = (one_next wire).message_in_order message new first why
+ends_at_rests asked stage awaited wire fault awaits (at_length {size = size} why) next new (hears {message = message} is first goes_on turns) = (one_next wire).message_is_short message new size first why
+ends_at_rests asked stage awaited wire fault awaits (at_limit why) next new (hears {message = message} is first goes_on turns) = (one_next wire).message_ends message new first why
 
-module _ (asked : Asked) (heard : List ℕ) where
-  comes_stops : (turn : Turn) → IsLast turn → (comes : Comes asked turn heard) → Stops asked comes.place comes.bytes
-  comes_stops turn last comes next message behind packet_is turns =
-      let same = one_message (id_of comes.place) comes.message message comes.bytes comes.behind behind comes.packet_is packet_is in
-      last next (sym comes.turns ∙ ap (λ (m : List ℕ). turn_of asked comes.place m) same.0 ∙ turns)
+overlong_not : (payload other : List ℕ) (size : ℕ) → other ≡ payload → size ≡ length payload → MESSAGE_LIMIT < size → length other ≤ MESSAGE_LIMIT → ⊥
+overlong_not payload other size same is long short = let e : length other ≡ length payload = ap length same in absurd (omega arith)
 
-  broken_stops : (place : Place) (bytes : List ℕ) → IsBroken (id_of place) bytes → Stops asked place bytes
-  broken_stops place bytes broken next message behind packet_is turns = broken message behind packet_is
+overlong_rests : (asked : Asked) (stage : Stage) (wire : Wire) (size : ℕ) → IsOverlong asked stage size → Rests asked stage wire
+overlong_rests asked stage wire size why next new (commands {payload = other} is short) = elim why.sends [
+  | inl sends ↦ overlong_not why.payload other size (same_commanding (doing asked stage) other why.payload next why.next is sends).0 why.size_is why.long short
+  | inr sends ↦ absurd (cc)
+]
+overlong_rests asked stage wire size why next new (answers {payload = other} is short) = elim why.sends [
+  | inl sends ↦ absurd (cc)
+  | inr sends ↦ overlong_not why.payload other size (same_answering (doing asked stage) other why.payload next why.next is sends).0 why.size_is why.long short
+]
+overlong_rests asked stage wire size why next new (hears is first goes_on turns) = elim why.sends [
+  | inl sends ↦ absurd (cc)
+  | inr sends ↦ absurd (cc)
+]
 
-  -- two turns with which the dump is over are one
-  one_turn : (turn other : Turn) → IsLast turn → IsLast other → Comes asked turn heard → Comes asked other heard → turn ≡ other
-  one_turn turn other last ends comes also =
-      let there = met asked heard comes.place also.place comes.bytes also.bytes (comes_stops turn last comes) (comes_stops other ends also) comes.leads also.leads in
-      let same = one_message (id_of comes.place) comes.message also.message comes.bytes comes.behind also.behind comes.packet_is (moved comes.place also.place comes.bytes also.bytes also.message also.behind there.0 there.1 also.packet_is) in
-      sym comes.turns ∙ ap (λ (m : List ℕ). turn_of asked comes.place m) same.0 ∙ ap (λ (p : Place). turn_of asked p also.message) there.0 ∙ also.turns
+-- ---- two ends at one place
 
-  -- the dump isn't over with a message where one isn't right or isn't whole
-  none_comes : (turn : Turn) → IsLast turn → Comes asked turn heard → (place : Place) (bytes : List ℕ) → Leads asked heard place bytes → IsBroken (id_of place) bytes → ⊥
-  none_comes turn last comes place bytes leads broken =
-      let there = met asked heard place comes.place bytes comes.bytes (broken_stops place bytes broken) (comes_stops turn last comes) leads comes.leads in
-      broken comes.message comes.behind (moved place comes.place bytes comes.bytes comes.message comes.behind there.0 there.1 comes.packet_is)
+some_is_one : (found : Option SessionFault) (fault other : SessionFault) → found ≡ Some fault → found ≡ Some other → fault ≡ other
+some_is_one found fault other a b = cc
 
-  misframed_not : (turn : Turn) → IsLast turn → Comes asked turn heard → Misframed asked heard → ⊥
-  misframed_not turn last comes bad = none_comes turn last comes bad.place bad.bytes bad.leads (wrong_is_broken (id_of bad.place) bad.bytes bad.wrong)
+one_ends_at : (stage : Stage) (awaited : Awaited) (wire : Wire) (fault other : SessionFault) → EndsAt stage awaited wire fault → EndsAt stage awaited wire other → fault ≡ other
+one_ends_at stage awaited wire fault other (at_message {new = new} why) (at_message {new = old} too) =
+    let same = (one_next wire).one_message why.message too.message new old why.heard too.heard in
+    some_is_one (fault_at awaited wire.place why.message) fault other why.fault_is (ap (λ (m : List ℕ). fault_at awaited wire.place m) same.0 ∙ too.fault_is)
+one_ends_at stage awaited wire fault other (at_message {new = new} why) (at_unfit too) =
+    let same = (one_next wire).one_message why.message too.message new too.new why.heard too.hears in
+    absurd (none_is_some (fault_at awaited wire.place why.message) fault (ap (λ (m : List ℕ). fault_at awaited wire.place m) same.0 ∙ too.goes_on) why.fault_is)
+one_ends_at stage awaited wire fault other (at_message {new = new} why) (at_disorder too) = absurd ((one_next wire).message_in_order why.message new why.heard too)
+one_ends_at stage awaited wire fault other (at_message {new = new} why) (at_length {size = size} too) = absurd ((one_next wire).message_is_short why.message new size why.heard too)
+one_ends_at stage awaited wire fault other (at_message {new = new} why) (at_limit too) = absurd ((one_next wire).message_ends why.message new why.heard too)
+one_ends_at stage awaited wire fault other (at_unfit why) (at_message {new = old} too) =
+    let same = (one_next wire).one_message why.message too.message why.new old why.hears too.heard in
+    absurd (none_is_some (fault_at awaited wire.place too.message) other (ap (λ (m : List ℕ). fault_at awaited wire.place m) (sym same.0) ∙ why.goes_on) too.fault_is)
+one_ends_at stage awaited wire fault other (at_unfit why) (at_unfit too) = refl
+one_ends_at stage awaited wire fault other (at_unfit why) (at_disorder too) = refl
+one_ends_at stage awaited wire fault other (at_unfit why) (at_length {size = size} too) = absurd ((one_next wire).message_is_short why.message why.new size why.hears too)
+one_ends_at stage awaited wire fault other (at_unfit why) (at_limit too) = absurd ((one_next wire).message_ends why.message why.new why.hears too)
+one_ends_at stage awaited wire fault other (at_disorder why) (at_message {new = old} too) = absurd ((one_next wire).message_in_order too.message old too.heard why)
+one_ends_at stage awaited wire fault other (at_disorder why) (at_unfit too) = refl
+one_ends_at stage awaited wire fault other (at_disorder why) (at_disorder too) = refl
+one_ends_at stage awaited wire fault other (at_disorder why) (at_length {size = size} too) = absurd ((one_next wire).disorder_is_not_long size why too)
+one_ends_at stage awaited wire fault other (at_disorder why) (at_limit too) = absurd ((one_next wire).disorder_ends why too)
+one_ends_at stage awaited wire fault other (at_length {size = size} why) (at_message {new = old} too) = absurd ((one_next wire).message_is_short too.message old size too.heard why)
+one_ends_at stage awaited wire fault other (at_length {size = size} why) (at_unfit too) = absurd ((one_next wire).message_is_short too.message too.new size too.hears why)
+one_ends_at stage awaited wire fault other (at_length {size = size} why) (at_disorder too) = absurd ((one_next wire).disorder_is_not_long size too why)
+one_ends_at stage awaited wire fault other (at_length {size = size} why) (at_length {size = more} too) = ap (λ (n : ℕ). TooLong n) ((one_next wire).one_size size more why too)
+one_ends_at stage awaited wire fault other (at_length {size = size} why) (at_limit too) = absurd ((one_next wire).long_ends size why too)
+one_ends_at stage awaited wire fault other (at_limit why) (at_message {new = old} too) = absurd ((one_next wire).message_ends too.message old too.heard why)
+one_ends_at stage awaited wire fault other (at_limit why) (at_unfit too) = absurd ((one_next wire).message_ends too.message too.new too.hears why)
+one_ends_at stage awaited wire fault other (at_limit why) (at_disorder too) = absurd ((one_next wire).disorder_ends too why)
+one_ends_at stage awaited wire fault other (at_limit why) (at_length {size = size} too) = absurd ((one_next wire).long_ends size too why)
+one_ends_at stage awaited wire fault other (at_limit why) (at_limit too) = refl
 
-  unfinished_not : (turn : Turn) → IsLast turn → Comes asked turn heard → Unfinished asked heard → ⊥
-  unfinished_not turn last comes cut = none_comes turn last comes cut.place cut.bytes cut.leads (part_is_broken (id_of cut.place) cut.more cut.bytes cut.part)
+one_overlong : (asked : Asked) (stage again : Stage) (size more : ℕ) → stage ≡ again → IsOverlong asked stage size → IsOverlong asked again more → size ≡ more
+one_overlong asked stage again size more same why too =
+    let is : doing asked stage ≡ doing asked again = ap (λ (s : Stage). doing asked s) same in
+    let payloads : why.payload ≡ too.payload = elim why.sends [
+      | inl sends ↦ elim too.sends [ inl also ↦ (same_commanding (doing asked stage) why.payload too.payload why.next too.next sends (is ∙ also)).0 | inr also ↦ absurd (cc) ]
+      | inr sends ↦ elim too.sends [ inl also ↦ absurd (cc) | inr also ↦ (same_answering (doing asked stage) why.payload too.payload why.next too.next sends (is ∙ also)).0 ]
+    ] in
+    why.size_is ∙ ap length payloads ∙ sym too.size_is
 
-  misframed_is_no_part : Misframed asked heard → Unfinished asked heard → ⊥
-  misframed_is_no_part bad cut =
-      let there = met asked heard bad.place cut.place bad.bytes cut.bytes (broken_stops bad.place bad.bytes (wrong_is_broken (id_of bad.place) bad.bytes bad.wrong)) (broken_stops cut.place cut.bytes (part_is_broken (id_of cut.place) cut.more cut.bytes cut.part)) bad.leads cut.leads in
-      wrong_is_no_part (id_of bad.place) cut.more bad.bytes bad.wrong (subst (λ (p : Place). IsPart MESSAGE_LIMIT (id_of p) cut.more bad.bytes) (sym there.0) (subst (λ (b : List ℕ). IsPart MESSAGE_LIMIT (id_of cut.place) cut.more b) (sym there.1) cut.part))
+awaits_not_sends : (asked : Asked) (stage again : Stage) (awaited : Awaited) (size : ℕ) → stage ≡ again → doing asked stage ≡ awaiting awaited → IsOverlong asked again size → ⊥
+awaits_not_sends asked stage again awaited size same awaits why =
+    let is : doing asked stage ≡ doing asked again = ap (λ (s : Stage). doing asked s) same in
+    elim why.sends [ inl sends ↦ (let a = is ∙ sends in cc) | inr sends ↦ (let a = is ∙ sends in cc) ]
 
-pub one_outcome : (asked : Asked) (heard : List ℕ) → HasOneOutcome asked heard
-one_outcome asked heard = record {
-  one_whole = λ columns others rows more is also. (let same = one_turn asked heard (whole columns rows) (whole others more) (whole_is_last columns rows) (whole_is_last others more) is also in (cc, cc));
-  one_refusal = λ refusal other is also. (let same = one_turn asked heard (stopped refusal) (stopped other) (stopped_is_last refusal) (stopped_is_last other) is also in cc);
-  whole_is_not_refused = λ columns rows refusal is also. (let same = one_turn asked heard (whole columns rows) (stopped refusal) (whole_is_last columns rows) (stopped_is_last refusal) is also in cc);
-  whole_is_not_garbled = λ columns rows is bad. elim bad [
-    | inl also ↦ (let same = one_turn asked heard (whole columns rows) unread (whole_is_last columns rows) unread_is_last is also in cc)
-    | inr wrong ↦ misframed_not asked heard (whole columns rows) (whole_is_last columns rows) is wrong
-  ];
-  whole_does_not_outlast = λ columns rows is over. unfinished_not asked heard (whole columns rows) (whole_is_last columns rows) is over.unfinished;
-  refused_is_not_garbled = λ refusal is bad. elim bad [
-    | inl also ↦ (let same = one_turn asked heard (stopped refusal) unread (stopped_is_last refusal) unread_is_last is also in cc)
-    | inr wrong ↦ misframed_not asked heard (stopped refusal) (stopped_is_last refusal) is wrong
-  ];
-  refused_does_not_outlast = λ refusal is over. unfinished_not asked heard (stopped refusal) (stopped_is_last refusal) is over.unfinished;
-  garbled_does_not_outlast = λ bad over. elim bad [
-    | inl comes ↦ unfinished_not asked heard unread unread_is_last comes over.unfinished
-    | inr wrong ↦ misframed_is_no_part asked heard wrong over.unfinished
-  ];
+module _ (asked : Asked) (start : Wire) where
+  one_end : (fault other : SessionFault) → EndsWith asked start fault → EndsWith asked start other → fault ≡ other
+  one_end fault other (awaiting_it {stage = stage} {wire = wire} {awaited = awaited} comes is ends) (awaiting_it {stage = again} {wire = seen} {awaited = also} comes_too is_too ends_too) =
+      let there = met asked start stage again wire seen (ends_at_rests asked stage awaited wire fault is ends) (ends_at_rests asked again also seen other is_too ends_too) comes comes_too in
+      let same = same_awaiting (doing asked stage) awaited also is (ap (λ (s : Stage). doing asked s) there.0 ∙ is_too) in
+      one_ends_at stage awaited wire fault other ends (subst (λ (s : Stage). EndsAt s awaited wire other) (sym there.0) (subst (λ (a : Awaited). EndsAt again a wire other) (sym same) (subst (λ (w : Wire). EndsAt again also w other) (sym there.1) ends_too)))
+  one_end fault other (awaiting_it {stage = stage} {wire = wire} {awaited = awaited} comes is ends) (sending_it {stage = again} {wire = seen} {size = size} comes_too long fault_is) =
+      let there = met asked start stage again wire seen (ends_at_rests asked stage awaited wire fault is ends) (overlong_rests asked again seen size long) comes comes_too in
+      absurd (awaits_not_sends asked stage again awaited size there.0 is long)
+  one_end fault other (sending_it {stage = stage} {wire = wire} {size = size} comes long fault_is) (awaiting_it {stage = again} {wire = seen} {awaited = also} comes_too is_too ends_too) =
+      let there = met asked start again stage seen wire (ends_at_rests asked again also seen other is_too ends_too) (overlong_rests asked stage wire size long) comes_too comes in
+      absurd (awaits_not_sends asked again stage also size there.0 is_too long)
+  one_end fault other (sending_it {stage = stage} {wire = wire} {size = size} comes long fault_is) (sending_it {stage = again} {wire = seen} {size = more} comes_too long_too other_is) =
+      let there = met asked start stage again wire seen (overlong_rests asked stage wire size long) (overlong_rests asked again seen more long_too) comes comes_too in
+      fault_is ∙ ap (λ (n : ℕ). TooLong n) (one_overlong asked stage again size more there.0 long long_too) ∙ sym other_is
+
+  one_whole : (columns others : List Column) (rows more : List (List Cell)) → IsWhole asked columns rows start → IsWhole asked others more start → (columns ≡ others) × (rows ≡ more)
+  one_whole columns others rows more is also =
+      let there = met asked start (is_over columns rows) (is_over others more) is.wire also.wire (over_rests asked columns rows is.wire) (over_rests asked others more also.wire) is.comes also.comes in
+      let same = there.0 in
+      (cc, cc)
+
+  over_not_ends : (columns : List Column) (rows : List (List Cell)) (fault : SessionFault) → IsWhole asked columns rows start → ¬ EndsWith asked start fault
+  over_not_ends columns rows fault is (awaiting_it {stage = stage} {wire = wire} {awaited = awaited} comes awaits ends) =
+      let there = met asked start (is_over columns rows) stage is.wire wire (over_rests asked columns rows is.wire) (ends_at_rests asked stage awaited wire fault awaits ends) is.comes comes in
+      let none : nothing ≡ awaiting awaited = ap (λ (s : Stage). doing asked s) there.0 ∙ awaits in
+      cc
+  over_not_ends columns rows fault is (sending_it {stage = stage} {wire = wire} {size = size} comes long fault_is) =
+      let there = met asked start (is_over columns rows) stage is.wire wire (over_rests asked columns rows is.wire) (overlong_rests asked stage wire size long) is.comes comes in
+      let none : nothing ≡ doing asked stage = ap (λ (s : Stage). doing asked s) there.0 in
+      elim long.sends [ inl sends ↦ (let a = none ∙ sends in cc) | inr sends ↦ (let a = none ∙ sends in cc) ]
+
+pub one_outcome : (asked : Asked) (start : Wire) → HasOneOutcome asked start
+one_outcome asked start = record {
+  one_whole = one_whole asked start;
+  one_end = one_end asked start;
+  whole_does_not_end = over_not_ends asked start;
 }

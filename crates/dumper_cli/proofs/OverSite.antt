@@ -1,18 +1,21 @@
 -- A dump over a link of a site, seen from the site.
-use Rattle.std.proofs.Common.{◌≡◌, ◌≤◌, ◌+◌, ◌-◌, ◌^◌, min, ℕ, List, [], ◌∷◌, ◌++◌, refl, ◌∙◌, ap, subst, arith}
+use Rattle.std.proofs.Common.{◌≡◌, ◌≤◌, ◌+◌, ◌-◌, ◌^◌, min, ℕ, List, [], ◌∷◌, ◌++◌, refl, ◌∙◌, ap, subst, inl, inr, arith}
 use Rattle.link_traits.specs.Cause.{Rose}
 use Rattle.link_traits.specs.Link.{Told, joined, stream, begun}
 use Rattle.link_traits.specs.Site.{SiteTold, next_of, connected, returned}
 use Rattle.link_traits.specs.declared.link.Link.{Ghosts as LinkGhosts}
 use Rattle.link_traits.specs.declared.folder.Shelf.{Ghosts as ShelfGhosts}
-use Rattle.dumper_cli.specs.Heard.{heard_of, IsRefused, IsGarbled, Outlasts}
-use Rattle.dumper_cli.specs.Outside.{heard_from, SaidAtMost, a_front, EndedBy}
-use Rattle.dumper_cli.specs.OverLink.{LinkStopped, StoppedOver}
-use Rattle.dumper_cli.specs.Said.{said}
+use Rattle.my_session.specs.Session.{fresh}
+use Rattle.my_session.specs.Wire.{Wire}
+use Rattle.my_session.specs.declared.fault.SessionFault.{SessionFault}
+use Rattle.my_session.specs.declared.fault.SessionFault.TheVariants.{Link, Refused, Garbled, NotProtocol10, PluginUnsupported, TooLong, StreamTooLong, OutOfMemory}
+use Rattle.dumper_cli.specs.Course.{IsWhole, EndsWith}
+use Rattle.dumper_cli.specs.Outside.{next_wire, SaidAtMost, a_front, a_goodbye, EndedBy, SiteTabled}
+use Rattle.dumper_cli.specs.OverLink.{LinkDumped, LinkStopped, StoppedOver}
+use Rattle.dumper_cli.specs.Run.{SaidFront}
 use Rattle.dumper_cli.specs.Words.{Asked}
 use Rattle.dumper_cli.specs.declared.fault.DumpFault.{DumpFault}
 use Rattle.dumper_cli.specs.declared.fault.DumpFault.TheVariants.{FolderNotEmpty, File, Session}
-use Rattle.dumper_cli.specs.declared.session.SessionFault.TheVariants.{Link, Refused, Garbled, StreamTooLong, OutOfMemory}
 
 -- all that a new link's peer is to say is its conversation
 stream_begun : (conversation : List (List ℕ)) → stream (begun conversation) ≡ joined conversation
@@ -23,21 +26,53 @@ stream_begun (list ∷ lists) = refl
 pub Rose-back : (site link_start link_end between now : ℕ) → site ≤ between → Rose link_start link_end → min (between + link_end) (2 ^ 64 - 1) ≤ now → Rose site now
 Rose-back site link_start link_end between now before rose back = omega arith
 
-module _ {L S : Type 0} (link : LinkGhosts L) (shelf : ShelfGhosts S) where
-  heard_same : (old : SiteTold) (a : L) → link.told a ≡ begun (next_of old.conversations) → heard_of (stream (link.told a)) ≡ heard_from old
-  heard_same old a begins = ap (λ (t : Told). heard_of (stream t)) begins ∙ ap heard_of (stream_begun (next_of old.conversations))
+module _ {L S : Type 0} (link : LinkGhosts L) (shelf : ShelfGhosts S) (asked : Asked) (old : SiteTold) (a : L) where
+  same_start : link.told a ≡ begun (next_of old.conversations) → fresh link a ≡ next_wire old
+  same_start begins =
+      ap (λ (t : Told). let w : Wire = record { sent = t.sent; stream = stream t; place = 0; id = 0 } in w) begins
+      ∙ ap (λ (s : List ℕ). let w : Wire = record { sent = []; stream = s; place = 0; id = 0 } in w) (stream_begun (next_of old.conversations))
 
-  pub SaidAtMost-stopped : (asked : Asked) (old new : SiteTold) (a b : L) (before behind : S) (fault : DumpFault) → link.tells b → link.told a ≡ begun (next_of old.conversations) → new ≡ returned (connected old) (link.told b).sent → LinkStopped link shelf asked a before b behind fault → SaidAtMost asked old new
-  SaidAtMost-stopped asked old new a b before behind fault telling begins told stopped =
-      let front = stopped.front telling in
-      a_front front.place (told ∙ ap (returned (connected old)) (front.sent ∙ ap (λ (t : Told). t.sent ++ said asked front.place) begins))
+  module _ (tells : Type 0) (new : SiteTold) (b : L) (before behind : S) (telling : tells → link.tells b) (begins : tells → link.told a ≡ begun (next_of old.conversations)) (told : tells → new ≡ returned (connected old) (link.told b).sent) where
+    pub SaidAtMost-stopped : (fault : DumpFault) → LinkStopped link shelf asked a before b behind fault → tells → SaidAtMost asked old new
+    SaidAtMost-stopped fault stopped t =
+        let said = stopped.front (telling t) in
+        let front = subst (λ (w : Wire). SaidFront asked w said.sent) (same_start (begins t)) said.front in
+        elim said.sent_is [
+          | inl is ↦ a_front front (told t ∙ ap (returned (connected old)) is)
+          | inr is ↦ a_goodbye front (told t ∙ ap (returned (connected old)) is)
+        ]
 
-  pub EndedBy-stopped : (asked : Asked) (tells : Type 0) (old : SiteTold) (rose : Type 0) (a b : L) (before behind : S) (fault : DumpFault) → (tells → link.tells b) → (tells → link.told a ≡ begun (next_of old.conversations)) → (Rose (link.faults a) (link.faults b) → rose)
-      → StoppedOver link shelf asked a before b behind fault → EndedBy (λ name. ⊥) asked tells old rose (Rose (shelf.faults before) (shelf.faults behind)) fault
-  EndedBy-stopped asked tells old rose a b before behind (FolderNotEmpty name) telling begins rising why = why
-  EndedBy-stopped asked tells old rose a b before behind File telling begins rising why = why
-  EndedBy-stopped asked tells old rose a b before behind (Session Link) telling begins rising why = rising why
-  EndedBy-stopped asked tells old rose a b before behind (Session (Refused refusal)) telling begins rising why = λ t. subst (IsRefused asked refusal) (heard_same old a (begins t)) (why (telling t))
-  EndedBy-stopped asked tells old rose a b before behind (Session Garbled) telling begins rising why = λ t. subst (IsGarbled asked) (heard_same old a (begins t)) (why (telling t))
-  EndedBy-stopped asked tells old rose a b before behind (Session StreamTooLong) telling begins rising why = λ t. subst (Outlasts asked) (heard_same old a (begins t)) (why (telling t))
-  EndedBy-stopped asked tells old rose a b before behind (Session OutOfMemory) telling begins rising why = tt
+    pub SiteTabled-dumped : (rose : Type 0) → (Rose (link.faults a) (link.faults b) → rose) → LinkDumped link shelf asked a before b behind → SiteTabled asked tells rose old new (shelf.tells before) (shelf.told behind).made
+    SiteTabled-dumped rose rising dumped = record {
+      columns = dumped.columns;
+      rows = dumped.rows;
+      site = λ t.
+          let said = dumped.all_said (telling t) in
+          record {
+            sent = (link.told b).sent;
+            told = told t;
+            said_all = record {
+              messages = said.messages;
+              are_all = said.are_all (ap (λ (t : Told). t.sent) (begins t));
+              quits = elim said.quits [ inl e ↦ inl e | inr e ↦ inr (e.0, rising e.1) ];
+            };
+            heard = subst (IsWhole asked dumped.columns dumped.rows) (same_start (begins t)) (dumped.heard (telling t));
+          };
+      files = dumped.made;
+    }
+
+  module _ (tells rose : Type 0) (b : L) (before behind : S) (telling : tells → link.tells b) (begins : tells → link.told a ≡ begun (next_of old.conversations)) (rising : Rose (link.faults a) (link.faults b) → rose) where
+    ended : (fault : SessionFault) → (link.tells b → EndsWith asked (fresh link a) fault) → tells → EndsWith asked (next_wire old) fault
+    ended fault why t = subst (λ (w : Wire). EndsWith asked w fault) (same_start (begins t)) (why (telling t))
+
+    pub EndedBy-stopped : (fault : DumpFault) → StoppedOver link shelf asked a before b behind fault → EndedBy (λ name. ⊥) asked tells old rose (Rose (shelf.faults before) (shelf.faults behind)) fault
+    EndedBy-stopped (FolderNotEmpty name) why = why
+    EndedBy-stopped File why = why
+    EndedBy-stopped (Session Link) why = rising why
+    EndedBy-stopped (Session (Refused form refusal)) why = ended (Refused form refusal) why
+    EndedBy-stopped (Session (Garbled place)) why = ended (Garbled place) why
+    EndedBy-stopped (Session (NotProtocol10 version)) why = ended (NotProtocol10 version) why
+    EndedBy-stopped (Session (PluginUnsupported name)) why = ended (PluginUnsupported name) why
+    EndedBy-stopped (Session (TooLong size)) why = ended (TooLong size) why
+    EndedBy-stopped (Session StreamTooLong) why = ended StreamTooLong why
+    EndedBy-stopped (Session OutOfMemory) why = tt

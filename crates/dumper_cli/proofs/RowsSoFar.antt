@@ -1,47 +1,53 @@
 -- The rows that were read and written so far.
-use Rattle.std.proofs.Common.{◌≡◌, ℕ, List, [], ◌++◌, refl, sym, ◌∙◌, subst, arith}
+use Rattle.std.proofs.Common.{◌≡◌, ◌↔◌, ◌≤◌, ◌<◌, ◌+◌, ◌^◌, ◌-◌, ℕ, List, [], ◌∷◌, ◌++◌, refl, sym, ◌∙◌, ap, subst, arith}
+use Rattle.link_traits.specs.Cause.{Rose}
 use Rattle.link_traits.specs.declared.link.Link.{Ghosts as LinkGhosts}
 use Rattle.link_traits.specs.declared.folder.Shelf.{Ghosts as ShelfGhosts}
+use Rattle.my_session.specs.Session.{SessionView, Pending}
 use Rattle.result_rows.specs.Reading.{Reading}
 use Rattle.sql_literals.specs.Literal.{Cell}
-use Rattle.dumper_cli.specs.Next.{RowsGoOn, RowsEnd, Copied, Broke}
-use Rattle.dumper_cli.specs.Place.{rows_asked, rows_come, id_past}
+use Rattle.dumper_cli.specs.Next.{HasRows, RowAdded, RowsEnd, Copied, Stands, Broke}
 use Rattle.dumper_cli.specs.Run.{Start, Reached}
+use Rattle.dumper_cli.specs.Stage.{awaits_rows, is_over}
 use Rattle.dumper_cli.specs.Words.{Asked}
 use Rattle.dumper_cli.specs.Writing.{IsWriting, KeepsFile}
 use Rattle.dumper_cli.specs.declared.column.Column.{Column}
 use Rattle.dumper_cli.specs.declared.data_file.DataFile.{DataFile}
 use Rattle.dumper_cli.specs.declared.fault.DumpFault.{DumpFault}
 use Rattle.dumper_cli.specs.declared.fault.DumpFault.TheVariants.{FolderNotEmpty, File, Session as InSession}
-use Rattle.dumper_cli.specs.declared.session.Session.{Session}
-use Rattle.dumper_cli.proofs.Onward.{Rose-later}
+use Rattle.dumper_cli.proofs.Reaching.{Rose-later}
 
 module _ {L S : Type 0} (link : LinkGhosts L) (shelf : ShelfGhosts S) where
-  pub record SoFar (columns : List Column) (old : Session L) (file : DataFile S shelf) (id : ℕ) (reader : Reading) (now : Session L) (now_file : DataFile S shelf) : Type 0 where
+  pub record SoFar (columns : List Column) (old : SessionView L) (file : DataFile S shelf) (now : SessionView L) (now_file : DataFile S shelf) : Type 0 where
     pub rows : List (List Cell)
-    pub reached : (asked : Asked) (start : Start) → Reached link asked (rows_asked columns) start old → Reached link asked (rows_come id reader columns rows) start now
+    pub reached : (asked : Asked) (start : Start) → Reached link asked (awaits_rows old.pending.reading columns []) start old → Reached link asked (awaits_rows old.pending.reading columns rows) start now
     pub writes : (schema table : List ℕ) → IsWriting shelf schema table columns [] file → IsWriting shelf schema table columns rows now_file
 
-  pub SoFar-begun : (columns : List Column) (old : Session L) (file : DataFile S shelf) (id : ℕ) (reader : Reading) (now : Session L) → id ≡ now.frames.id → now.frames.id ≡ id_past 1 now.frames.message → ((asked : Asked) (start : Start) → Reached link asked (rows_asked columns) start old → Reached link asked (rows_come (id_past 1 now.frames.message) reader columns []) start now) → SoFar columns old file id reader now file
-  SoFar-begun columns old file id reader now id_is is reached = record {
-    rows = [];
-    reached = λ asked start at. subst (λ (n : ℕ). Reached link asked (rows_come n reader columns []) start now) (sym (id_is ∙ is)) (reached asked start at);
-    writes = λ schema table writing. writing;
-  }
+  pub SoFar-begun : (columns : List Column) (old : SessionView L) (file : DataFile S shelf) → SoFar columns old file old file
+  SoFar-begun columns old file = record { rows = []; reached = λ asked start at. at; writes = λ schema table writing. writing }
 
-  pub SoFar-more : (columns : List Column) (old : Session L) (file : DataFile S shelf) (id : ℕ) (reader : Reading) (mid : Session L) (mid_file : DataFile S shelf) (later : Reading) (now : Session L) (now_file : DataFile S shelf) → SoFar columns old file id reader mid mid_file → (next : ℕ) → next ≡ now.frames.id → now.frames.id ≡ id_past id now.frames.message → RowsGoOn link shelf id reader columns mid mid_file later now now_file → SoFar columns old file next later now now_file
-  SoFar-more columns old file id reader mid mid_file later now now_file so_far next next_is is more = record {
-    rows = so_far.rows ++ more.added;
-    reached = λ asked start at. subst (λ (n : ℕ). Reached link asked (rows_come n later columns (so_far.rows ++ more.added)) start now) (sym (next_is ∙ is)) (more.reached asked so_far.rows start (so_far.reached asked start at));
-    writes = λ schema table writing. more.writes schema table so_far.rows (so_far.writes schema table writing);
-  }
+  -- the same rows are awaited
+  same_awaited : (asked : Asked) (columns : List Column) (rows : List (List Cell)) (start : Start) (pending mid : Pending) (now : SessionView L) → mid ≡ pending → Reached link asked (awaits_rows pending.reading columns rows) start now → Reached link asked (awaits_rows mid.reading columns rows) start now
+  same_awaited asked columns rows start pending mid now same at = subst (λ (p : Pending). Reached link asked (awaits_rows p.reading columns rows) start now) (sym same) at
 
-  pub Copied-ended : (columns : List Column) (old : Session L) (file : DataFile S shelf) (id : ℕ) (reader : Reading) (mid : Session L) (mid_file : DataFile S shelf) (now : Session L) (now_file : DataFile S shelf) → SoFar columns old file id reader mid mid_file → RowsEnd link shelf id reader columns mid mid_file now now_file → Copied link shelf columns old file now now_file
-  Copied-ended columns old file id reader mid mid_file now now_file so_far ends = record {
-    rows = so_far.rows;
-    finished = λ asked start at. ends.finished asked so_far.rows start (so_far.reached asked start at);
-    writes = λ schema table writing. ends.writes schema table so_far.rows (so_far.writes schema table writing);
-  }
+  module _ (columns : List Column) (old : SessionView L) (file : DataFile S shelf) (mid : SessionView L) (mid_file : DataFile S shelf) (now : SessionView L) (now_file : DataFile S shelf) (pending : mid.pending ≡ old.pending) (so_far : SoFar columns old file mid mid_file) where
+    pub SoFar-more : RowAdded link shelf columns mid mid_file now now_file → SoFar columns old file now now_file
+    SoFar-more more = record {
+      rows = so_far.rows ++ more.added;
+      reached = λ asked start at. same_awaited asked columns (so_far.rows ++ more.added) start mid.pending old.pending now (sym pending) (more.reached asked so_far.rows start (same_awaited asked columns so_far.rows start old.pending mid.pending mid pending (so_far.reached asked start at)));
+      writes = λ schema table writing. more.writes schema table so_far.rows (so_far.writes schema table writing);
+    }
+
+    pub Copied-ended : RowsEnd link shelf columns mid mid_file now now_file → Copied link shelf columns old file now now_file
+    Copied-ended last = record {
+      rows = so_far.rows;
+      reached = λ asked start at. last.reached asked so_far.rows start (same_awaited asked columns so_far.rows start old.pending mid.pending mid pending (so_far.reached asked start at));
+      writes = λ schema table writing. last.writes schema table so_far.rows (so_far.writes schema table writing);
+    }
+
+    -- where the rows stand
+    pub so_far_at : (asked : Asked) (start : Start) → Reached link asked (awaits_rows old.pending.reading columns []) start old → Reached link asked (awaits_rows mid.pending.reading columns so_far.rows) start mid
+    so_far_at asked start at = same_awaited asked columns so_far.rows start old.pending mid.pending mid pending (so_far.reached asked start at)
 
   pub KeepsFile-same : (a : DataFile S shelf) → KeepsFile shelf a a
   KeepsFile-same a = record { name = refl; head = refl; tells = (λ t. t, λ t. t); later = omega arith }
@@ -54,8 +60,8 @@ module _ {L S : Type 0} (link : LinkGhosts L) (shelf : ShelfGhosts S) where
     later = let first = one.later in let second = two.later in omega arith;
   }
 
-  -- why a run broke off, seen from an earlier state of the file
-  pub Broke-keeps : (asked : Asked) (start : Start) (file mid new_file : DataFile S shelf) (new : Session L) (fault : DumpFault) → KeepsFile shelf file mid → Broke link shelf asked start mid new new_file fault → Broke link shelf asked start file new new_file fault
-  Broke-keeps asked start file mid new_file new (FolderNotEmpty name) keeps broke = broke
-  Broke-keeps asked start file mid new_file new File keeps broke = (broke.0, Rose-later _ _ _ keeps.later broke.1)
-  Broke-keeps asked start file mid new_file new (InSession fault) keeps broke = broke
+  -- why a run broke off, seen from an earlier state of the shelf
+  pub Broke-later : (asked : Asked) (start : Start) (before mid behind : S) (new : L) (fault : DumpFault) → shelf.faults before ≤ shelf.faults mid → Broke link shelf asked start mid new behind fault → Broke link shelf asked start before new behind fault
+  Broke-later asked start before mid behind new (FolderNotEmpty name) later broke = broke
+  Broke-later asked start before mid behind new File later broke = (broke.0, Rose-later _ _ _ later broke.1)
+  Broke-later asked start before mid behind new (InSession fault) later broke = broke

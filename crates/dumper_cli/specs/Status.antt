@@ -2,33 +2,47 @@
 use Rattle.std.specs.Prelude.{◌≡◌, ◌≤◌, ◌⊎◌, ℕ, List, [], Result, Ok, Err}
 use Rattle.link_traits.specs.Contents.{File as FolderFile}
 use Rattle.link_traits.specs.Site.{SiteTold}
+use Rattle.my_session.specs.declared.fault.SessionFault.{SessionFault}
+use Rattle.my_session.specs.declared.fault.SessionFault.TheVariants.{Link, Refused, Garbled, NotProtocol10, PluginUnsupported, TooLong, StreamTooLong, OutOfMemory}
 use Rattle.result_rows.specs.declared.refusal.Refusal.{Refusal}
-use Rattle.dumper_cli.specs.Heard.{IsRefused, IsGarbled, Outlasts}
-use Rattle.dumper_cli.specs.Outside.{heard_from, IsLeast}
+use Rattle.sql_statements.specs.declared.form.Form.{Form}
+use Rattle.dumper_cli.specs.Course.{EndsWith}
+use Rattle.dumper_cli.specs.Outside.{next_wire, IsLeast}
 use Rattle.dumper_cli.specs.Words.{Asked}
 use Rattle.dumper_cli.specs.declared.fault.DumpFault.{DumpFault}
 use Rattle.dumper_cli.specs.declared.fault.DumpFault.TheVariants.{FolderNotEmpty, File, Session}
-use Rattle.dumper_cli.specs.declared.session.SessionFault.TheVariants.{Link, Refused, Garbled, StreamTooLong, OutOfMemory}
 
--- 0 at the end, 1 for a folder that isn't empty, a reply that isn't read and a session that is too long, 3 for an ERR,
--- 4 for a fault of the link or the folder, 5 for want of memory
+-- 1 for what isn't read in its place, isn't supported or is too long, 3 for an ERR, 4 for a fault of the link, 5 for want of memory
+abbrev pub session_status : SessionFault → ℕ
+session_status Link = 4
+session_status (Refused form refusal) = 3
+session_status (Garbled place) = 1
+session_status (NotProtocol10 version) = 1
+session_status (PluginUnsupported name) = 1
+session_status (TooLong size) = 1
+session_status StreamTooLong = 1
+session_status OutOfMemory = 5
+
+-- 0 at the end, 1 for a folder that isn't empty, 4 for a fault of the folder, and else that of the session's fault
 abbrev pub status_of : Result (Unit {0}) DumpFault → ℕ
 status_of (Ok done) = 0
 status_of (Err (FolderNotEmpty name)) = 1
 status_of (Err File) = 4
-status_of (Err (Session Link)) = 4
-status_of (Err (Session (Refused refusal))) = 3
-status_of (Err (Session Garbled)) = 1
-status_of (Err (Session StreamTooLong)) = 1
-status_of (Err (Session OutOfMemory)) = 5
+status_of (Err (Session fault)) = session_status fault
+
+-- the server's messages or what was to be sent are the cause of a fault with this status
+pub record IsEnding (asked : Asked) (site_tells : Type 0) (site : SiteTold) (status : ℕ) : Type 0 where
+  pub fault : SessionFault
+  pub status_is : session_status fault ≡ status
+  pub ends : site_tells → EndsWith asked (next_wire site) fault
 
 -- each status but 0 and 2 has its cause
 pub record IsCaused (asked : Asked) (site_tells : Type 0) (site : SiteTold) (site_rose folder_tells : Type 0) (contents : List FolderFile) (folder_rose : Type 0) (status : ℕ) : Type 0 where
   pub fine : status ≤ 5
-  -- the folder lists a name, or a message came that isn't read in its place, or the session has had all its bytes
-  pub one : status ≡ 1 → ((name : List ℕ) × (folder_tells → IsLeast name contents)) ⊎ ((site_tells → IsGarbled asked (heard_from site)) ⊎ (site_tells → Outlasts asked (heard_from site)))
+  -- the folder lists a name, or a message came or was to be sent at which a dump ends so
+  pub one : status ≡ 1 → ((name : List ℕ) × (folder_tells → IsLeast name contents)) ⊎ IsEnding asked site_tells site 1
   -- the server answered an ERR
-  pub three : status ≡ 3 → (refusal : Refusal) × (site_tells → IsRefused asked refusal (heard_from site))
+  pub three : status ≡ 3 → (form : Form) × (refusal : Refusal) × (site_tells → EndsWith asked (next_wire site) (Refused form refusal))
   -- the site's or the folder's count of faults rose in this call
   pub four : status ≡ 4 → site_rose ⊎ folder_rose
 

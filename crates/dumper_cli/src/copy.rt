@@ -1,23 +1,54 @@
-// The rows of the table, read from the answer to their query and written to the file one by one.
-ghost use Rattle.std.specs.Prelude.{◌≡◌, ◌<◌, [], ◌∷◌, true, IfErr, IfOk, OnOk};
-ghost use Rattle.result_rows.specs.Reading.{further_of};
+// The rows of the table, asked for and written to the file one by one.
+ghost use Rattle.std.specs.Prelude.{◌≡◌, ◌<◌, ◌∷◌, [], IfErr, IfOk, OnOk, length};
 ghost use Rattle.result_rows.specs.RowCells.{row_cells};
-ghost use Rattle.dumper_cli.specs.Columns.{is_row_of};
-ghost use Rattle.dumper_cli.specs.Next.{NextRow, Broke, Copied};
-ghost use Rattle.dumper_cli.specs.Place.{rows_asked, rows_come, id_past};
+ghost use Rattle.dumper_cli.specs.AskedBy.{asked_by};
+ghost use Rattle.dumper_cli.specs.Next.{IsReady, HasRows, Keeps, CopiesRow, Broke, Copied};
 ghost use Rattle.dumper_cli.specs.Run.{Reached, Halted};
-ghost use Rattle.dumper_cli.specs.Session.{Keeps};
-ghost use Rattle.dumper_cli.specs.Taking.{Adds, Unwritten, TakesRow, Untaken};
+ghost use Rattle.dumper_cli.specs.Stage.{asks_rows, awaits_rows};
+ghost use Rattle.dumper_cli.specs.Taking.{AddsRow, Unwritten};
 ghost use Rattle.dumper_cli.specs.Writing.{KeepsFile};
 
 use crate::column::Column;
 use crate::data_file::{DataFile, WriteFault};
 use crate::fault::DumpFault;
-use crate::replies::query_answer;
-use crate::session::{Session, SessionFault};
+use crate::texts::names_of;
+use crate::words::Words;
 use link_traits::{Link, Shelf};
-use my_packets::Message;
-use result_rows::{Row, RowReader, Turn};
+use my_session::{Reads, Session, SessionFault};
+use result_rows::Row;
+use sql_statements::{Part, Query};
+use std::alloc::Global;
+
+/// Asks for the rows.
+pub fn ask_rows<L: Link>(
+    session: &mut Session<L>,
+    alloc: Global,
+    words: &Words<'_>,
+    columns: &[Column],
+) -> Result<(), SessionFault>
+    requires ready { IsReady session.old }
+    requires some { 0 < length columns.now }
+
+    ensures keeps { Keeps L.Link session.old session.new }
+    ensures rows { OnOk result (HasRows session.new) }
+    ensures ok { OnOk result ((start : _) → Reached L.Link (asked_by words.now) (asks_rows columns.now) start session.old → Reached L.Link (asked_by words.now) (awaits_rows session.new.pending.reading columns.now []) start session.new) }
+    ensures err { IfErr result (λ fault. (start : _) → Reached L.Link (asked_by words.now) (asks_rows columns.now) start session.old → Halted L.Link (asked_by words.now) start session.new.link fault) }
+{
+    let Ok(columns) = names_of(alloc, columns) else {
+        return Err(SessionFault::OutOfMemory);
+    };
+    let schema = Part::of(words.schema.as_slice());
+    let table = Part::of(words.table.as_slice());
+    let query = Query::Rows {
+        columns,
+        schema,
+        table,
+    };
+    match session.query(&query) {
+        Ok(_) => Ok(()),
+        Err(fault) => Err(fault),
+    }
+}
 
 // Writes a row to the file.
 fn write_row<S: Shelf>(
@@ -26,107 +57,64 @@ fn write_row<S: Shelf>(
     file: &mut DataFile<S>,
 ) -> Result<(), DumpFault>
     ensures keeps { KeepsFile S.Shelf file.old file.new }
-    ensures ok { OnOk result (Adds S.Shelf columns.now ((row_cells row.now) ∷ []) file.old file.new) }
-    ensures taken { OnOk result (is_row_of columns.now (row_cells row.now) ≡ true) }
-    ensures err { IfErr result (λ fault. Unwritten S.Shelf columns.now (row_cells row.now) file.old file.new fault) }
+    ensures ok { OnOk result (AddsRow S.Shelf columns.now (row_cells row.now) file.old file.new) }
+    ensures err { IfErr result (λ fault. Unwritten S.Shelf columns.now (row_cells row.now) row.now.place file.old file.new fault) }
 {
     match file.row(columns, row) {
         Ok(()) => Ok(()),
         Err(WriteFault::File) => Err(DumpFault::File),
-        Err(WriteFault::Mismatch) => Err(DumpFault::Session(SessionFault::Garbled)),
+        Err(WriteFault::Mismatch) => Err(DumpFault::Session(SessionFault::Garbled(row.place()))),
         Err(WriteFault::OutOfMemory) => Err(DumpFault::Session(SessionFault::OutOfMemory)),
     }
 }
 
-// Takes a row from a further message, and says whether more is to come.
-fn take_row<S: Shelf>(
-    reader: &mut RowReader,
-    message: Message<'_>,
+// Reads a further row and writes it to the file, and says whether more may come.
+fn copy_row<L: Link, S: Shelf>(
+    session: &mut Session<L>,
     columns: &[Column],
     file: &mut DataFile<S>,
 ) -> Result<bool, DumpFault>
-    requires pending { 0 < reader.old.columns }
+    requires rows { HasRows session.old }
 
-    ensures keeps { KeepsFile S.Shelf file.old file.new }
-    ensures ok { IfOk result (λ goes_on. TakesRow S.Shelf goes_on reader.old columns.now file.old (further_of reader.old message.entry.payload.now) reader.new file.new) }
-    ensures err { IfErr result (λ fault. Untaken S.Shelf reader.old columns.now file.old (further_of reader.old message.entry.payload.now) file.new fault) }
+    ensures keeps { Keeps L.Link session.old session.new }
+    ensures keeps_file { KeepsFile S.Shelf file.old file.new }
+    ensures ok { IfOk result (λ goes_on. CopiesRow L.Link S.Shelf goes_on columns.now session.old file.old session.new file.new) }
+    ensures err { IfErr result (λ fault. (asked rows start : _) → Reached L.Link asked (awaits_rows session.old.pending.reading columns.now rows) start session.old → Broke L.Link S.Shelf asked start file.old.shelf session.new.link file.new.shelf fault) }
 {
-    match reader.more(message) {
-        Ok(Turn::Definition) => Ok(true),
-        Ok(Turn::Row(row)) => match write_row(columns, &row, file) {
+    match session.next_row() {
+        Ok(Some(row)) => match write_row(columns, &row, file) {
             Ok(()) => Ok(true),
             Err(fault) => Err(fault),
         },
-        Ok(Turn::End) => Ok(false),
-        Ok(Turn::Refused(refusal)) => Err(DumpFault::Session(SessionFault::Refused(refusal))),
-        Err(_) => Err(DumpFault::Session(SessionFault::Garbled)),
+        Ok(None) => Ok(false),
+        Err(fault) => Err(DumpFault::Session(fault)),
     }
 }
 
-impl<L: Link> Session<L> {
-    // Reads the first message of the answer about the rows.
-    fn begin_rows(&mut self, reader: &mut RowReader, columns: &[Column]) -> Result<(), SessionFault>
-        ensures keeps { Keeps L.Link self.old self.new }
-        ensures next { OnOk result (self.new.frames.id ≡ id_past 1 self.new.frames.message) }
-        ensures pending { OnOk result (0 < reader.new.columns) }
-        ensures ok { OnOk result ((asked start : _) → Reached L.Link asked (rows_asked columns.now) start self.old → Reached L.Link asked (rows_come (id_past 1 self.new.frames.message) reader.new columns.now []) start self.new) }
-        ensures err { IfErr result (λ fault. (asked start : _) → Reached L.Link asked (rows_asked columns.now) start self.old → Halted L.Link asked start self.new fault) }
-    {
-        if let Err(fault) = self.hear(1) {
-            return Err(fault);
-        }
-        query_answer(reader, self.message().payload)
-    }
+/// Reads the rows, and writes each to the file as it comes.
+pub fn copy_rows<L: Link, S: Shelf>(
+    session: &mut Session<L>,
+    columns: &[Column],
+    file: &mut DataFile<S>,
+) -> Result<(), DumpFault>
+    requires rows { HasRows session.old }
 
-    // Reads a further message of that answer, and says whether more is to come.
-    fn next_row<S: Shelf>(
-        &mut self,
-        id: u8,
-        reader: &mut RowReader,
-        columns: &[Column],
-        file: &mut DataFile<S>,
-    ) -> Result<bool, DumpFault>
-        requires pending { 0 < reader.old.columns }
-
-        ensures keeps { Keeps L.Link self.old self.new }
-        ensures keeps_file { KeepsFile S.Shelf file.old file.new }
-        ensures next { IfOk result (λ _. self.new.frames.id ≡ id_past id self.new.frames.message) }
-        ensures place { IfOk result (λ _. self.old.frames.place < self.new.frames.place) }
-        ensures ok { IfOk result (λ goes_on. NextRow L.Link S.Shelf goes_on id reader.old columns.now self.old file.old reader.new self.new file.new) }
-        ensures err { IfErr result (λ fault. (asked rows start : _) → Reached L.Link asked (rows_come id reader.old columns.now rows) start self.old → Broke L.Link S.Shelf asked start file.old self.new file.new fault) }
-    {
-        if let Err(fault) = self.hear(id) {
-            return Err(DumpFault::Session(fault));
+    ensures keeps { Keeps L.Link session.old session.new }
+    ensures keeps_file { KeepsFile S.Shelf file.old file.new }
+    ensures ready { OnOk result (IsReady session.new) }
+    ensures ok { OnOk result (Copied L.Link S.Shelf columns.now session.old file.old session.new file.new) }
+    ensures err { IfErr result (λ fault. (asked start : _) → Reached L.Link asked (awaits_rows session.old.pending.reading columns.now []) start session.old → Broke L.Link S.Shelf asked start file.old.shelf session.new.link file.new.shelf fault) }
+{
+    let mut left = u64::MAX;
+    'rows: while 0 < left {
+        let goes_on = match copy_row(session, columns, file) {
+            Ok(goes_on) => goes_on,
+            Err(fault) => return Err(fault),
+        };
+        if !goes_on {
+            return Ok(());
         }
-        take_row(reader, self.message(), columns, file)
+        left -= 1;
     }
-
-    /// Reads the answer about the rows, and writes each row to the file as it comes.
-    pub fn copy_rows<S: Shelf>(
-        &mut self,
-        columns: &[Column],
-        file: &mut DataFile<S>,
-    ) -> Result<(), DumpFault>
-        ensures keeps { Keeps L.Link self.old self.new }
-        ensures keeps_file { KeepsFile S.Shelf file.old file.new }
-        ensures ok { OnOk result (Copied L.Link S.Shelf columns.now self.old file.old self.new file.new) }
-        ensures err { IfErr result (λ fault. (asked start : _) → Reached L.Link asked (rows_asked columns.now) start self.old → Broke L.Link S.Shelf asked start file.old self.new file.new fault) }
-    {
-        let mut reader = RowReader::new();
-        if let Err(fault) = self.begin_rows(&mut reader, columns) {
-            return Err(DumpFault::Session(fault));
-        }
-        let mut id = self.next_id();
-        'rows: loop {
-            let goes_on = match self.next_row(id, &mut reader, columns, file) {
-                Ok(goes_on) => goes_on,
-                Err(fault) => return Err(fault),
-            };
-            if goes_on {
-                id = self.next_id();
-            } else {
-                return Ok(());
-            }
-        }
-    }
+    Err(DumpFault::Session(SessionFault::StreamTooLong))
 }

@@ -1,17 +1,15 @@
 // The dump of a table of a site into a folder.
 ghost use Rattle.std.specs.Prelude.{◌≡◌, ◌<◌, ◌≤◌, ◌+◌, ◌^◌, ◌-◌, ◌↔◌, [], length, false, Some, IfErr, IfOk, OnOk, OnErr, MatchOption, min};
 ghost use Rattle.link_traits.specs.Cause.{Rose};
-ghost use Rattle.dumper_cli.specs.AskedBy.{asked_by, IsShort};
+ghost use Rattle.dumper_cli.specs.AskedBy.{asked_by};
 ghost use Rattle.dumper_cli.specs.Outside.{Dumped, SiteTabled, SaidAtMost, SaidBefore, IsLeast, IsUnlisted, EndedBy, ComesLater, AimsAt};
-ghost use Rattle.dumper_cli.specs.Run.{Asks};
 
 use crate::conversation::{Ended, dump_over_link};
 use crate::fault::DumpFault;
-use crate::session::SessionFault;
-use crate::texts::{columns_query, response_text};
 use crate::words::Words;
 use link_traits::{Folder, ListFault, Shelf, Site};
-use sql_literals::{Buffer, Name, OutOfMemory};
+use my_session::SessionFault;
+use sql_literals::Name;
 use std::alloc::Global;
 
 /// The server's name and port.
@@ -19,43 +17,16 @@ pub const HOST: &str = "127.0.0.1";
 
 pub const PORT: u16 = 3306;
 
-/// The messages that are known before a connection is made.
-#[derive(Drop)]
-struct Opening {
-    answer: Buffer,
-    query: Buffer,
-}
-
-// The answer to the greeting, and the query for the columns.
-fn opening_of(alloc: Global, words: &Words<'_>) -> Result<Opening, OutOfMemory>
-    requires short { IsShort (asked_by words.now) }
-
-    ensures asks { IfOk result (λ made. Asks (asked_by words.now) made.answer.bytes made.query.bytes) }
-    ensures short { IfOk result (λ made. length made.answer.bytes < 16777215) }
-    ensures short_too { IfOk result (λ made. length made.query.bytes < 16777215) }
-{
-    let user = words.user;
-    let schema = words.schema;
-    let table = words.table;
-    let answer = response_text(alloc, user.as_slice())?;
-    let query = columns_query(alloc, schema.as_slice(), table.as_slice())?;
-    Ok(Opening { answer, query })
-}
-
 // The conversation on a link of the site, which comes back.
 fn dump_over_site<T: Site, S: Shelf>(
     alloc: Global,
     site: &mut T,
     shelf: S,
     words: &Words<'_>,
-    opening: &Opening,
 ) -> (S, Result<(), DumpFault>)
     requires none_out { T.out site.old ≡ 0 }
     requires none_begun { S.is_begun shelf ≡ false }
     requires none_made { S.tells shelf → (S.told shelf).made ≡ [] }
-    requires asks { Asks (asked_by words.now) opening.now.answer.bytes opening.now.query.bytes }
-    requires one_packet { length opening.now.answer.bytes < 16777215 }
-    requires one_packet_too { length opening.now.query.bytes < 16777215 }
 
     ensures none_out { T.out site.new ≡ 0 }
     ensures site_tells { T.tells site.old ↔ T.tells site.new }
@@ -76,14 +47,7 @@ fn dump_over_site<T: Site, S: Shelf>(
         link,
         shelf,
         result,
-    } = dump_over_link(
-        alloc,
-        link,
-        shelf,
-        words,
-        opening.answer.as_slice(),
-        opening.query.as_slice(),
-    );
+    } = dump_over_link(alloc, link, shelf, words);
     site.give_back(link);
     (shelf, result)
 }
@@ -118,15 +82,11 @@ fn first_name<F: Folder>(folder: &mut F) -> Result<Option<Name>, DumpFault>
 fn dump_into_empty<T: Site, F: Folder>(
     alloc: Global,
     words: &Words<'_>,
-    opening: &Opening,
     site: &mut T,
     folder: &mut F,
 ) -> Result<(), DumpFault>
     requires none_out { T.out site.old ≡ 0 }
     requires empty { F.tells folder.old → F.contents folder.old ≡ [] }
-    requires asks { Asks (asked_by words.now) opening.now.answer.bytes opening.now.query.bytes }
-    requires one_packet { length opening.now.answer.bytes < 16777215 }
-    requires one_packet_too { length opening.now.query.bytes < 16777215 }
 
     ensures none_out { T.out site.new ≡ 0 }
     ensures site_later { T.faults site.old ≤ T.faults site.new }
@@ -143,7 +103,7 @@ fn dump_into_empty<T: Site, F: Folder>(
         Ok(shelf) => shelf,
         Err(_) => return Err(DumpFault::File),
     };
-    let (shelf, result) = dump_over_site(alloc, site, shelf, words, opening);
+    let (shelf, result) = dump_over_site(alloc, site, shelf, words);
     folder.take_back(shelf);
     result
 }
@@ -157,7 +117,6 @@ pub fn dump<T: Site, F: Folder>(
     folder: &mut F,
 ) -> Result<(), DumpFault>
     requires none_out { T.out site.old ≡ 0 }
-    requires short { IsShort (asked_by words.now) }
 
     ensures none_out { T.out site.new ≡ 0 }
     ensures site_later { T.faults site.old ≤ T.faults site.new }
@@ -170,10 +129,6 @@ pub fn dump<T: Site, F: Folder>(
     ensures said { IfErr result (λ fault. T.tells site.old → SaidBefore (asked_by words.now) (T.told site.old) (T.told site.new) fault) }
     ensures unchanged { OnErr result (F.tells folder.old → F.contents folder.new ≡ F.contents folder.old) }
 {
-    let opening = match opening_of(alloc, words) {
-        Ok(opening) => opening,
-        Err(_) => return Err(DumpFault::Session(SessionFault::OutOfMemory)),
-    };
     let path = words.path;
     if folder.aim(path.as_str()).is_err() {
         return Err(DumpFault::Session(SessionFault::OutOfMemory));
@@ -182,7 +137,7 @@ pub fn dump<T: Site, F: Folder>(
         return Err(DumpFault::Session(SessionFault::OutOfMemory));
     }
     match first_name(folder) {
-        Ok(None) => dump_into_empty(alloc, words, &opening, site, folder),
+        Ok(None) => dump_into_empty(alloc, words, site, folder),
         Ok(Some(name)) => Err(DumpFault::FolderNotEmpty(name)),
         Err(fault) => Err(fault),
     }

@@ -1,5 +1,5 @@
 // Why a dump ended.
-use crate::session::SessionFault;
+use my_session::SessionFault;
 use sql_literals::Name;
 
 /// Why a dump ended before its end.
@@ -9,5 +9,7 @@ pub enum DumpFault {
     FolderNotEmpty(Name),
     /// The folder or its file failed, and has counted it.
     File,
+    /// A call of the session didn't end well, or a row came that can't be dumped, which is `Garbled`
+    /// with the row's place.
     Session(SessionFault),
 }

@@ -8,17 +8,12 @@ mod copy;
 mod data_file;
 mod dump;
 mod fault;
-mod greeting;
 mod laws;
-mod replies;
 mod row_text;
-mod session;
-mod stages;
-mod talk;
 mod texts;
 mod top;
 mod words;
 
 pub use column::{Column, ColumnList};
-pub use laws::a_conversation_has_one_outcome;
+pub use laws::{a_conversation_has_one_outcome, all_is_said};
 pub use top::mydumper;

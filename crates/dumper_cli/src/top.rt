@@ -3,17 +3,33 @@ ghost use Rattle.std.specs.Prelude.{◌≡◌, ◌≤◌, ◌↔◌, Some, None}
 ghost use Rattle.link_traits.specs.Cause.{Rose};
 ghost use Rattle.dumper_cli.specs.Outside.{Dumped, AimsAt, SaidAtMost};
 ghost use Rattle.dumper_cli.specs.Outcomes.{IsExact};
-ghost use Rattle.dumper_cli.specs.Status.{status_of, IsCaused, RefusesFull};
+ghost use Rattle.dumper_cli.specs.Status.{session_status, status_of, IsCaused, RefusesFull};
 ghost use Rattle.dumper_cli.specs.Words.{asked_of};
 
 use crate::dump::dump;
 use crate::fault::DumpFault;
-use crate::session::SessionFault;
 use crate::words::{Words, read_words};
 use link_traits::{Clock, Folder, Sink, Site};
+use my_session::SessionFault;
 use sql_literals::NameList;
 use std::alloc::Global;
 use std::thread::Threads;
+
+// The exit status of a dump that a session ended.
+fn session_status(fault: &SessionFault) -> u8
+    ensures { result ≡ session_status fault.now }
+{
+    match fault {
+        SessionFault::Link => 4,
+        SessionFault::Refused(_, _) => 3,
+        SessionFault::Garbled(_) => 1,
+        SessionFault::NotProtocol10(_) => 1,
+        SessionFault::PluginUnsupported(_) => 1,
+        SessionFault::TooLong(_) => 1,
+        SessionFault::StreamTooLong => 1,
+        SessionFault::OutOfMemory => 5,
+    }
+}
 
 // The exit status of a dump.
 fn exit_status(ended: &Result<(), DumpFault>) -> u8
@@ -23,20 +39,17 @@ fn exit_status(ended: &Result<(), DumpFault>) -> u8
         Ok(()) => 0,
         Err(DumpFault::FolderNotEmpty(_)) => 1,
         Err(DumpFault::File) => 4,
-        Err(DumpFault::Session(SessionFault::Link)) => 4,
-        Err(DumpFault::Session(SessionFault::Refused(_))) => 3,
-        Err(DumpFault::Session(SessionFault::Garbled)) => 1,
-        Err(DumpFault::Session(SessionFault::StreamTooLong)) => 1,
-        Err(DumpFault::Session(SessionFault::OutOfMemory)) => 5,
+        Err(DumpFault::Session(fault)) => session_status(fault),
     }
 }
 
 /// Dumps one table: `words` are those of the command line behind the program's name, exactly
-/// `-u USER -B SCHEMA -T TABLE -o PATH`. Answers the exit status: 0 where the table was dumped; 1
-/// where the folder isn't empty, a message of the server isn't read in its place, or a session has
-/// had 2^62 bytes; 2 where the words are others; 3 where the server answered an ERR; 4 where the
-/// connection or a file failed; 5 for want of memory. Its conditions are that no link and no shelf
-/// is out. `err` and `clock` aren't used.
+/// `-u USER -B SCHEMA -T TABLE -o PATH`, or the same with `-p PASSWORD` behind the user. The login is
+/// by `mysql_native_password`. Answers the exit status: 0 where the table was dumped; 1 where the
+/// folder isn't empty, a message of the server isn't read in its place, its protocol or its plugin
+/// isn't supported, a message is too long, or a session has had 2^62 bytes; 2 where the words are
+/// others; 3 where the server answered an ERR; 4 where the connection or a file failed; 5 for want
+/// of memory. Its conditions are that no link and no shelf is out. `err` and `clock` aren't used.
 pub fn mydumper<R: Threads + Sync, S: Site, F: Folder, O: Sink, C: Clock>(
     _rt: &R,
     alloc: Global,

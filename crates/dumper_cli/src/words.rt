@@ -1,8 +1,8 @@
 // The words of a command line.
-ghost use Rattle.std.specs.Prelude.{◌≡◌, ◌≤◌, length, Some, None, IfSome, MatchOption};
+ghost use Rattle.std.specs.Prelude.{◌≡◌, Some, None, MatchOption};
 ghost use Rattle.std.specs.List.{list_all};
-ghost use Rattle.dumper_cli.specs.Words.{is_word_byte, is_plain_word, is_path, are_options, asked_of};
-ghost use Rattle.dumper_cli.specs.AskedBy.{asked_by, IsShort};
+ghost use Rattle.dumper_cli.specs.AskedBy.{asked_by};
+ghost use Rattle.dumper_cli.specs.Words.{is_word_byte, is_plain_word, is_free_word, are_options, are_words, without_password, with_password, asked_of};
 
 use sql_literals::{Name, NameList};
 
@@ -10,6 +10,8 @@ use sql_literals::{Name, NameList};
 #[derive(Clone, Copy)]
 pub struct Words<'a> {
     pub user: &'a Name,
+    /// Empty where none is given.
+    pub password: &'a [u8],
     pub schema: &'a Name,
     pub table: &'a Name,
     pub path: &'a Name,
@@ -36,9 +38,9 @@ fn is_plain_word(word: &Name) -> bool
     1 <= bytes.len() && bytes.len() <= 100 && are_word_bytes(bytes)
 }
 
-// A path isn't empty and doesn't begin with `-`.
-fn is_path(word: &Name) -> bool
-    ensures { result ≡ is_path word.now }
+// A password or a path isn't empty and doesn't begin with `-`.
+fn is_free_word(word: &Name) -> bool
+    ensures { result ≡ is_free_word word.now }
 {
     match word.as_slice() {
         [] => false,
@@ -55,30 +57,72 @@ fn are_options(user: &Name, schema: &Name, table: &Name, path: &Name) -> bool
         && path.as_str() == "-o"
 }
 
-/// Reads the words of a command line: exactly the eight words `-u USER -B SCHEMA -T TABLE -o PATH`.
-/// User, schema and table are one to a hundred ASCII letters, digits and `_`; the path isn't empty and
-/// doesn't begin with `-`. `None` exactly where the words are others. Takes no memory.
-pub fn read_words(words: &NameList) -> Option<Words<'_>>
-    ensures value { MatchOption result (asked_of words.now ≡ None) (λ found. asked_of words.now ≡ Some (asked_by found)) }
-    ensures short { IfSome result (λ found. IsShort (asked_by found)) }
+// Each word has its form.
+fn are_words(words: &Words<'_>) -> bool
+    ensures { result ≡ are_words (asked_by words.now) }
 {
-    let [a, user, b, schema, c, table, d, path] = words.as_slice() else {
+    is_plain_word(words.user)
+        && is_plain_word(words.schema)
+        && is_plain_word(words.table)
+        && is_free_word(words.path)
+}
+
+// The eight words without a password.
+fn without_password(words: &[Name]) -> Option<Words<'_>>
+    ensures { MatchOption result (without_password words.now ≡ None) (λ found. without_password words.now ≡ Some (asked_by found)) }
+{
+    let [a, user, b, schema, c, table, d, path] = words else {
         return None;
     };
-    if are_options(a, b, c, d)
-        && is_plain_word(user)
-        && is_plain_word(schema)
-        && is_plain_word(table)
-        && is_path(path)
-    {
-        return Some(Words {
-            user,
-            schema,
-            table,
-            path,
-        });
+    let found = Words {
+        user,
+        password: &[],
+        schema,
+        table,
+        path,
+    };
+    if are_options(a, b, c, d) && are_words(&found) {
+        return Some(found);
     }
     None
+}
+
+// The ten words with one.
+fn with_password(words: &[Name]) -> Option<Words<'_>>
+    ensures { MatchOption result (with_password words.now ≡ None) (λ found. with_password words.now ≡ Some (asked_by found)) }
+{
+    let [a, user, p, password, b, schema, c, table, d, path] = words else {
+        return None;
+    };
+    let found = Words {
+        user,
+        password: password.as_slice(),
+        schema,
+        table,
+        path,
+    };
+    if are_options(a, b, c, d)
+        && p.as_str() == "-p"
+        && is_free_word(password)
+        && are_words(&found)
+    {
+        return Some(found);
+    }
+    None
+}
+
+/// Reads the words of a command line: exactly the eight words `-u USER -B SCHEMA -T TABLE -o PATH`, or
+/// ten with `-p PASSWORD` behind the user. User, schema and table are one to a hundred ASCII letters,
+/// digits and `_`; the password and the path aren't empty and don't begin with `-`. `None` exactly
+/// where the words are others. Takes no memory.
+pub fn read_words(words: &NameList) -> Option<Words<'_>>
+    ensures { MatchOption result (asked_of words.now ≡ None) (λ found. asked_of words.now ≡ Some (asked_by found)) }
+{
+    let words = words.as_slice();
+    match without_password(words) {
+        Some(found) => Some(found),
+        None => with_password(words),
+    }
 }
 
 #[cfg(test)]
@@ -87,7 +131,7 @@ mod tests {
     use std::test::Fail;
 
     #[test]
-    fn reads_exactly_the_eight_words(rt: HostRuntime) -> Result<(), Fail> {
+    fn reads_exactly_the_words(rt: HostRuntime) -> Result<(), Fail> {
         let cases = [
             ("-u u -B s -T t -o out", true),
             ("-u Ab_09 -B _ -T 7 -o ./a-b/c", true),
@@ -110,6 +154,14 @@ mod tests {
             ("-u é -B s -T t -o out", false),
             ("-u u -B s -T t -o ", false),
             ("-u u -B s -T t -o -x", false),
+            ("-u u -p secret -B s -T t -o out", true),
+            ("-u u -p é;'\" -B s -T t -o out", true),
+            ("-u u -p  -B s -T t -o out", false),
+            ("-u u -p -x -B s -T t -o out", false),
+            ("-u u -p secret -B s -T t -o", false),
+            ("-u u -P secret -B s -T t -o out", false),
+            ("-p secret -u u -B s -T t -o out", false),
+            ("-u u -B s -T t -o out -p secret", false),
         ];
         for (line, want) in cases {
             let mut words = NameList::new(rt.alloc());
@@ -131,6 +183,20 @@ mod tests {
         assert_eq!(rt; found.user.as_str(), "u");
         assert_eq!(rt; found.schema.as_str(), "s");
         assert_eq!(rt; found.table.as_str(), "t");
+        assert_eq!(rt; found.path.as_str(), "out");
+        assert!(rt; found.password.is_empty());
+        Ok(())
+    }
+
+    #[test]
+    fn lends_the_password(rt: HostRuntime) -> Result<(), Fail> {
+        let mut words = NameList::new(rt.alloc());
+        for word in ["-u", "u", "-p", "secret", "-B", "s", "-T", "t", "-o", "out"] {
+            words.push(Name::of(rt.alloc(), word)?)?;
+        }
+        let found = read_words(&words).expect(&rt, "ten words");
+        assert_eq!(rt; found.user.as_str(), "u");
+        assert_eq!(rt; found.password, b"secret".as_slice());
         assert_eq!(rt; found.path.as_str(), "out");
         Ok(())
     }

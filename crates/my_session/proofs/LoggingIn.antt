@@ -17,7 +17,7 @@ use Rattle.my_session.specs.Heard.{HearsReply, HearsGreeting, HearsDecision, IsA
 use Rattle.my_session.specs.Login.{password_answer, switch_answer, IsGreeted, IsSwitched, IsAccepted, IsLoggedIn, LoginAwaits, a_greeting, a_decision, an_acceptance, a_set_up, LoginSends, the_response, the_switch_answer, the_set_up}
 use Rattle.my_session.specs.Session.{Runs, IsCounted, LoginStopped, fresh}
 use Rattle.my_session.specs.Statements.{IsRun, RunAwaits, an_ok, RunSends, command_payload}
-use Rattle.my_session.specs.Wire.{Wire, Step, commands, answers, hears, Leads, ends, Takes, behind_sent}
+use Rattle.my_session.specs.Wire.{Wire, Step, commands, answers, hears, Leads, ends, Takes, Sent}
 use Rattle.my_session.specs.declared.fault.SessionFault.{SessionFault}
 use Rattle.my_session.specs.declared.login.Decision.TheVariants.{Accepted, Switched}
 
@@ -30,7 +30,7 @@ module _ (user password : List ℕ) where
     pub greet_unsaid : (fault : SessionFault) → Unsaid (response user answer) middle fault new → Stops (LoginAwaits user password) (LoginSends user password) old fault new
     greet_unsaid fault unsaid = at_payload (the_response record { message = heard.message; found = found; read = heard.read; steps_are = refl; payload_is = ap (λ (a : Option (List ℕ)). response user a) answer_is }) (leads_heard heard.message old middle heard.heard) unsaid
 
-    pub greet_said : new ≡ behind_sent middle.id (response user answer) middle → Takes (IsGreeted user password) old new
+    pub greet_said : Sent middle.id (response user answer) middle new → Takes (IsGreeted user password) old new
     greet_said said = record {
       steps = hears heard.message ∷ answers (response user answer) ∷ [];
       so = record { message = heard.message; found = found; read = heard.read; steps_are = ap (λ (a : Option (List ℕ)). hears heard.message ∷ answers (response user a) ∷ []) answer_is };
@@ -62,7 +62,7 @@ module _ (user password : List ℕ) where
         at_payload (the_switch_answer record { before = takes.so.before; greeted = takes.so.greeted; message = takes.so.message; found = found; goes_on = takes.so.goes_on; read = takes.so.read; steps_are = takes.so.steps_are; payload_is = ap (λ (a : Option (List ℕ)). switch_answer a) answer_is })
         takes.leads unsaid
 
-    module _ (middle : Wire) (said : middle ≡ behind_sent old.id (switch_answer answer) old) where
+    module _ (middle : Wire) (said : Sent old.id (switch_answer answer) old middle) where
       switched : IsSwitched user password (takes.steps ++ answers (switch_answer answer) ∷ [])
       switched = record {
         before = takes.so.before;

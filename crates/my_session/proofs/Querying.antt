@@ -33,7 +33,7 @@ use Rattle.my_session.specs.Heard.{HasColumns, HearsReply, HearsDefinition, IsRo
 use Rattle.my_session.specs.Lead.{lead_of}
 use Rattle.my_session.specs.Session.{Runs, rows_of}
 use Rattle.my_session.specs.Statements.{IsRun, RunAwaits, RunSends, IsLed, LeadAwaits, LeadSends, IsAsked, IsDescribed, QueryAwaits, a_lead, a_count, a_definition, QuerySends, the_lead, the_query, query_payload}
-use Rattle.my_session.specs.Wire.{Wire, Step, commands, hears, Leads, ends, Takes, behind_sent}
+use Rattle.my_session.specs.Wire.{Wire, Step, commands, hears, Leads, ends, Takes, Sent}
 use Rattle.my_session.specs.declared.fault.SessionFault.{SessionFault}
 
 -- ---- the lead
@@ -169,7 +169,7 @@ module _ (query : Query) (start old new : Wire) where
   pub query_unsaid : (fault : SessionFault) → Takes (IsLed query) start old → Unsaid (query_payload (query_text query)) old fault new → Stops (QueryAwaits query) (QuerySends query) start fault new
   query_unsaid fault takes unsaid = at_payload (the_query takes.so refl) takes.leads unsaid
 
-  pub query_said : Takes (IsLed query) start old → new ≡ behind_sent 0 (query_payload (query_text query)) old → Takes (IsAsked query) start new
+  pub query_said : Takes (IsLed query) start old → Sent 0 (query_payload (query_text query)) old new → Takes (IsAsked query) start new
   query_said takes said = record {
     steps = takes.steps ++ commands (query_payload (query_text query)) ∷ [];
     so = record { before = takes.steps; led = takes.so; steps_are = refl };

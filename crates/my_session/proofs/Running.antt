@@ -10,22 +10,22 @@ use Rattle.my_session.specs.Halt.{Halts, Unsaid, Stops, at_message, at_payload}
 use Rattle.my_session.specs.Heard.{HearsReply}
 use Rattle.my_session.specs.Session.{Runs}
 use Rattle.my_session.specs.Statements.{IsRun, RunAwaits, an_ok, RunSends, command_payload}
-use Rattle.my_session.specs.Wire.{Wire, Hears, Step, commands, answers, hears, Leads, ends, behind_command, behind_answer, behind_message, Takes, behind_sent}
+use Rattle.my_session.specs.Wire.{Wire, Hears, Step, commands, answers, hears, Leads, ends, behind_command, behind_answer, behind_message, Takes, Sent, behind_sent}
 use Rattle.my_session.specs.declared.fault.SessionFault.{SessionFault}
 use Rattle.my_session.specs.declared.fault.SessionFault.TheVariants.{OutOfMemory}
 
 -- one conversation behind another
 pub leads_on : (before after : List Step) (old middle new : Wire) → Leads before old middle → Leads after middle new → Leads (before ++ after) old new
 leads_on [] after old middle new ends later = later
-leads_on (commands payload ∷ before) after old middle new (behind_command first) later = behind_command (leads_on before after (behind_sent 0 payload old) middle new first later)
-leads_on (answers payload ∷ before) after old middle new (behind_answer first) later = behind_answer (leads_on before after (behind_sent old.id payload old) middle new first later)
+leads_on (commands payload ∷ before) after old middle new (behind_command short first) later = behind_command short (leads_on before after (behind_sent 0 payload old) middle new first later)
+leads_on (answers payload ∷ before) after old middle new (behind_answer short first) later = behind_answer short (leads_on before after (behind_sent old.id payload old) middle new first later)
 leads_on (hears message ∷ before) after old middle new (behind_message {middle = next} heard first) later = behind_message heard (leads_on before after next middle new first later)
 
-pub leads_said : (payload : List ℕ) (old new : Wire) → new ≡ behind_sent 0 payload old → Leads (commands payload ∷ []) old new
-leads_said payload old new is = subst (λ (w : Wire). Leads (commands payload ∷ []) old w) (sym is) (behind_command ends)
+pub leads_said : (payload : List ℕ) (old new : Wire) → Sent 0 payload old new → Leads (commands payload ∷ []) old new
+leads_said payload old new sent = subst (λ (w : Wire). Leads (commands payload ∷ []) old w) (sym sent.new_is) (behind_command sent.short ends)
 
-pub leads_answered : (payload : List ℕ) (old new : Wire) → new ≡ behind_sent old.id payload old → Leads (answers payload ∷ []) old new
-leads_answered payload old new is = subst (λ (w : Wire). Leads (answers payload ∷ []) old w) (sym is) (behind_answer ends)
+pub leads_answered : (payload : List ℕ) (old new : Wire) → Sent old.id payload old new → Leads (answers payload ∷ []) old new
+leads_answered payload old new sent = subst (λ (w : Wire). Leads (answers payload ∷ []) old w) (sym sent.new_is) (behind_answer sent.short ends)
 
 pub leads_heard : (message : List ℕ) (old new : Wire) → Hears message old new → Leads (hears message ∷ []) old new
 leads_heard message old new heard = behind_message heard ends
@@ -46,7 +46,7 @@ module _ (command : Command) (old new : Wire) where
   pub run_unsaid : (payload : List ℕ) (fault : SessionFault) → payload ≡ command_payload command → Unsaid payload old fault new → Stops (RunAwaits command) (RunSends command) old fault new
   run_unsaid payload fault is unsaid = at_payload (record { steps_are = refl; payload_is = is }) ends unsaid
 
-  module _ (payload : List ℕ) (middle : Wire) (is : payload ≡ command_payload command) (said : middle ≡ behind_sent 0 payload old) where
+  module _ (payload : List ℕ) (middle : Wire) (is : payload ≡ command_payload command) (said : Sent 0 payload old middle) where
     run_said : Leads (commands (command_payload command) ∷ []) old middle
     run_said = subst (λ (l : List ℕ). Leads (commands l ∷ []) old middle) is (leads_said payload old middle said)
 

@@ -21,6 +21,11 @@ behind_sent id payload wire = record wire {
   id = id_behind (packet_count (length payload)) id;
 }
 
+-- a payload that isn't too long was sent in packets from this id on
+pub record Sent (id : ℕ) (payload : List ℕ) (old new : Wire) : Type 0 where
+  pub short : length payload ≤ MESSAGE_LIMIT
+  pub new_is : new ≡ behind_sent id payload old
+
 -- the next message of the stream was heard
 pub record Hears (message : List ℕ) (old new : Wire) : Type 0 where
   pub short : length message ≤ MESSAGE_LIMIT
@@ -39,8 +44,8 @@ pub data Step : Type 0 where
 -- the steps lead from one wire to the other
 pub data Leads : List Step → Wire → Wire → Type 0 where
   ends : {wire : Wire} → Leads [] wire wire
-  behind_command : {payload : List ℕ} {steps : List Step} {old new : Wire} → Leads steps (behind_sent 0 payload old) new → Leads (commands payload ∷ steps) old new
-  behind_answer : {payload : List ℕ} {steps : List Step} {old new : Wire} → Leads steps (behind_sent old.id payload old) new → Leads (answers payload ∷ steps) old new
+  behind_command : {payload : List ℕ} {steps : List Step} {old new : Wire} → length payload ≤ MESSAGE_LIMIT → Leads steps (behind_sent 0 payload old) new → Leads (commands payload ∷ steps) old new
+  behind_answer : {payload : List ℕ} {steps : List Step} {old new : Wire} → length payload ≤ MESSAGE_LIMIT → Leads steps (behind_sent old.id payload old) new → Leads (answers payload ∷ steps) old new
   behind_message : {message : List ℕ} {steps : List Step} {old middle new : Wire} → Hears message old middle → Leads steps middle new → Leads (hears message ∷ steps) old new
 
 -- steps of this kind lead from one wire to the other

@@ -9,7 +9,7 @@ ghost use Rattle.my_session.specs.Channel.{ChannelView, channel_wire, wire_at, I
 ghost use Rattle.my_session.specs.Halt.{Misheard, Silent, Unsaid};
 ghost use Rattle.my_session.specs.Receiving.{Fetches, Sips, Unfetched, Unsettled, Unsipped};
 ghost use Rattle.my_session.specs.Session.{IsCounted, failed_by};
-ghost use Rattle.my_session.specs.Wire.{Hears, behind_sent};
+ghost use Rattle.my_session.specs.Wire.{Hears, Sent};
 
 use crate::fault::SessionFault;
 use crate::limits::{MESSAGE_LIMIT, PIECE, SESSION_LIMIT, SHORT_PAYLOAD};
@@ -314,7 +314,7 @@ impl<L: Link> Channel<L> {
         ensures counted { IsCounted (L.faults self.old.link) (L.faults self.new.link) result }
         ensures failed { self.new.has_failed ≡ failed_by result }
         ensures fault { IfErr result (λ fault. fault ≡ SessionFault.Link) }
-        ensures sent { OnOk result (L.tells self.old.link → channel_wire L.Link self.new ≡ behind_sent id payload.now (channel_wire L.Link self.old)) }
+        ensures sent { OnOk result (L.tells self.old.link → Sent id payload.now (channel_wire L.Link self.old) (channel_wire L.Link self.new)) }
         ensures silent { OnErr result (L.tells self.old.link → Silent (channel_wire L.Link self.old) (channel_wire L.Link self.new)) }
     {
         let mut packet = [0; SHORT_PACKET];
@@ -332,7 +332,7 @@ impl<L: Link> Channel<L> {
         ensures failed { self.new.has_failed ≡ failed_by result }
         ensures kind { IfErr result IsOfChannel }
         ensures memory { length payload.now ≤ SHORT_PAYLOAD → result ≡ Err SessionFault.OutOfMemory → ⊥ }
-        ensures sent { OnOk result (L.tells self.old.link → channel_wire L.Link self.new ≡ behind_sent id payload.now (channel_wire L.Link self.old)) }
+        ensures sent { OnOk result (L.tells self.old.link → Sent id payload.now (channel_wire L.Link self.old) (channel_wire L.Link self.new)) }
         ensures err { IfErr result (λ fault. L.tells self.old.link → Unsaid payload.now (channel_wire L.Link self.old) fault (channel_wire L.Link self.new)) }
     {
         if payload.len() <= SHORT_PAYLOAD {
@@ -354,7 +354,7 @@ impl<L: Link> Channel<L> {
         ensures counted { IsCounted (L.faults self.old.link) (L.faults self.new.link) result }
         ensures failed { self.new.has_failed ≡ failed_by result }
         ensures kind { IfErr result IsOfChannel }
-        ensures sent { OnOk result (L.tells self.old.link → channel_wire L.Link self.new ≡ behind_sent self.old.id payload.now (channel_wire L.Link self.old)) }
+        ensures sent { OnOk result (L.tells self.old.link → Sent self.old.id payload.now (channel_wire L.Link self.old) (channel_wire L.Link self.new)) }
         ensures err { IfErr result (λ fault. L.tells self.old.link → Unsaid payload.now (channel_wire L.Link self.old) fault (channel_wire L.Link self.new)) }
     {
         let id = self.id;
@@ -370,7 +370,7 @@ impl<L: Link> Channel<L> {
         ensures counted { IsCounted (L.faults self.old.link) (L.faults self.new.link) result }
         ensures failed { self.new.has_failed ≡ failed_by result }
         ensures fault { IfErr result IsUnsent }
-        ensures sent { OnOk result (L.tells self.old.link → channel_wire L.Link self.new ≡ behind_sent id payload.now (channel_wire L.Link self.old)) }
+        ensures sent { OnOk result (L.tells self.old.link → Sent id payload.now (channel_wire L.Link self.old) (channel_wire L.Link self.new)) }
         ensures silent { OnErr result (L.tells self.old.link → Silent (channel_wire L.Link self.old) (channel_wire L.Link self.new)) }
     {
         self.packets.clear();

@@ -11,7 +11,7 @@ ghost use Rattle.my_session.specs.Halt.{Halts, Stops, Unsaid};
 ghost use Rattle.my_session.specs.Heard.{HearsGreeting, HearsDecision, IsDecision, IsAskedToSwitch};
 ghost use Rattle.my_session.specs.Login.{password_answer, switch_answer, IsGreeted, IsAccepted, IsLoggedIn, LoginAwaits, LoginSends};
 ghost use Rattle.my_session.specs.Session.{IsCounted, Runs, failed_by};
-ghost use Rattle.my_session.specs.Wire.{Wire, Takes, behind_sent};
+ghost use Rattle.my_session.specs.Wire.{Wire, Sent, Takes};
 
 use crate::channel::Channel;
 use crate::fault::SessionFault;
@@ -98,7 +98,7 @@ fn respond<L: Link>(
     ensures tells { L.tells channel.old.link ↔ L.tells channel.new.link }
     ensures counted { IsCounted (L.faults channel.old.link) (L.faults channel.new.link) result }
     ensures alive { OnOk result (channel.new.has_failed ≡ false) }
-    ensures sent { OnOk result (L.tells channel.old.link → channel_wire L.Link channel.new ≡ behind_sent channel.old.id (response user.now (option_copied answer.entry)) (channel_wire L.Link channel.old)) }
+    ensures sent { OnOk result (L.tells channel.old.link → Sent channel.old.id (response user.now (option_copied answer.entry)) (channel_wire L.Link channel.old) (channel_wire L.Link channel.new)) }
     ensures err { IfErr result (λ fault. L.tells channel.old.link → Unsaid (response user.now (option_copied answer.entry)) (channel_wire L.Link channel.old) fault (channel_wire L.Link channel.new)) }
 {
     let mut out = Vec::new(alloc);
@@ -207,7 +207,7 @@ fn send_answer<L: Link>(
     ensures tells { L.tells channel.old.link ↔ L.tells channel.new.link }
     ensures counted { IsCounted (L.faults channel.old.link) (L.faults channel.new.link) result }
     ensures alive { OnOk result (channel.new.has_failed ≡ false) }
-    ensures sent { OnOk result (L.tells channel.old.link → channel_wire L.Link channel.new ≡ behind_sent channel.old.id (switch_answer (option_copied answer.entry)) (channel_wire L.Link channel.old)) }
+    ensures sent { OnOk result (L.tells channel.old.link → Sent channel.old.id (switch_answer (option_copied answer.entry)) (channel_wire L.Link channel.old) (channel_wire L.Link channel.new)) }
     ensures err { IfErr result (λ fault. L.tells channel.old.link → Unsaid (switch_answer (option_copied answer.entry)) (channel_wire L.Link channel.old) fault (channel_wire L.Link channel.new)) }
 {
     match answer {

@@ -12,7 +12,7 @@ ghost use Rattle.my_session.specs.Heard.{HearsReply, HearsDefinition, IsBehindRo
 ghost use Rattle.my_session.specs.Lead.{lead_of};
 ghost use Rattle.my_session.specs.Session.{Asks, IsCounted, IsOfStatement, failed_by, rows_of};
 ghost use Rattle.my_session.specs.Statements.{IsLed, LeadAwaits, LeadSends, IsAsked, IsDescribed, QueryAwaits, QuerySends, query_payload};
-ghost use Rattle.my_session.specs.Wire.{Wire, Hears, Takes, behind_sent};
+ghost use Rattle.my_session.specs.Wire.{Wire, Hears, Sent, Takes};
 
 use crate::channel::Channel;
 use crate::fault::SessionFault;
@@ -112,7 +112,7 @@ fn send_query<L: Link>(
     ensures alive { failed_by result ≡ false → channel.new.has_failed ≡ false }
     ensures room { length payload.old.bytes + payload.old.spare ≤ length payload.new.bytes + payload.new.spare }
     ensures fault { IfErr result IsOfStatement }
-    ensures sent { OnOk result (L.tells channel.old.link → channel_wire L.Link channel.new ≡ behind_sent 0 (query_payload (query_text query.now)) (channel_wire L.Link channel.old)) }
+    ensures sent { OnOk result (L.tells channel.old.link → Sent 0 (query_payload (query_text query.now)) (channel_wire L.Link channel.old) (channel_wire L.Link channel.new)) }
     ensures err { IfErr result (λ fault. L.tells channel.old.link → Unsaid (query_payload (query_text query.now)) (channel_wire L.Link channel.old) fault (channel_wire L.Link channel.new)) }
 {
     if let Err(fault) = write_query(payload, query) {

@@ -105,6 +105,13 @@ impl<L: Link> Session<L> {
         self.has_failed
     }
 
+    /// How many bytes were heard on the session. Takes no memory.
+    pub fn place(&self) -> u64
+        ensures { result ≡ self.now.place }
+    {
+        self.channel.place()
+    }
+
     /// Ends the session, and gives its link back. Where the session hasn't failed it sends COM_QUIT,
     /// whatever comes of that. Takes no memory.
     pub fn close(self) -> L

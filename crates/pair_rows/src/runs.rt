@@ -61,7 +61,11 @@ const ERR_BEHIND_A_ROW: [&[u8]; 6] = [b"\x02", DEFINITION, DEFINITION, EOF, b"\x
 
 const REFUSED: &[u8] = b"\xff\x15\x04#28000no";
 
-const SWITCH: &[u8] = b"\xfemysql_native_password\x00abcdefghijklmnopqrst\x00";
+const SWITCH: &[u8] = b"\xfemysql_native_password\x00ABCDEFGHIJKLMNOPQRST\x00";
+
+const OTHER_SWITCH: &[u8] = b"\xfecaching_sha2_password\x00ABCDEFGHIJKLMNOPQRST\x00";
+
+const OLD_GREETING: &[u8] = b"\x093.20.0\x00\x07\x00\x00\x00abcdefgh\x00";
 
 const FILE: &[u8] = b"SET NAMES binary;
 SET FOREIGN_KEY_CHECKS=0;
@@ -84,6 +88,14 @@ const LONG: usize = 16_777_215;
 const LOGIN: &[u8] =
     b"\x39\x00\x00\x01\x05\xa2\x08\x00\x00\x00\x00\x04\x2d\x00\x00\x00\x00\x00\x00\x00\x00\x00\x00\x00\x00\x00\x00\x00\x00\x00\x00\x00\x00\x00\x00\x00u\x00\x00mysql_native_password\x00";
 
+// The same with the answer of the password `secret` to the greeting's scramble.
+const LOGIN_WITH_PASSWORD: &[u8] =
+    b"\x4d\x00\x00\x01\x05\xa2\x08\x00\x00\x00\x00\x04\x2d\x00\x00\x00\x00\x00\x00\x00\x00\x00\x00\x00\x00\x00\x00\x00\x00\x00\x00\x00\x00\x00\x00\x00u\x00\x14\x88\x17\xc5\x0f\xa7\x79\xda\xef\x01\x0e\xe7\x57\x78\x25\xb0\x84\x7d\xf9\x84\x2emysql_native_password\x00";
+
+// Its answer to the scramble of the switch request.
+const SWITCH_ANSWER: &[u8] =
+    b"\x14\x00\x00\x03\x28\x44\x15\x90\x67\x42\x85\xe7\xd0\x3c\xae\x7a\xf2\x37\x50\x47\x97\xf7\x0e\x91";
+
 const SET_NAMES: &[u8] = b"\x11\x00\x00\x00\x03SET NAMES binary";
 
 const QUERY: &[u8] = b"\x1d\x00\x00\x00\x03SELECT `id`,`a` FROM `s`.`t`";
@@ -92,14 +104,21 @@ const GOODBYE: &[u8] = b"\x01\x00\x00\x00\x01";
 
 const WORDS: [&str; 8] = ["-u", "u", "-B", "s", "-T", "t", "-o", "out"];
 
+const WORDS_WITH_PASSWORD: [&str; 10] = [
+    "-u", "u", "-p", "secret", "-B", "s", "-T", "t", "-o", "out",
+];
+
 const SEVEN_WORDS: [&str; 7] = ["-u", "u", "-B", "s", "-T", "t", "-o"];
 
-// What a run meets: its words, the server's answer to the login and its rows, the greatest answer of
-// a `recv` (0 for no limit), the calls of the site that fail, and a file that the folder has before.
+// What a run meets: its words, the server's greeting, its answers to the login (to the response and to
+// the answer to a switch request) and the sequence id of the first, its rows, the greatest answer of a
+// `recv` (0 for no limit), the calls of the site that fail, and a file that the folder has before.
 #[derive(Clone, Copy)]
 struct Case<'a> {
     words: &'a [&'a str],
-    login: &'a [u8],
+    greeting: &'a [u8],
+    login: &'a [&'a [u8]],
+    login_id: u8,
     rows: &'a [&'a [u8]],
     cut: u32,
     faults: &'a [u64],
@@ -109,7 +128,9 @@ struct Case<'a> {
 // A table of two rows, and nothing in its way.
 const PLAIN: Case<'static> = Case {
     words: &WORDS,
-    login: OK,
+    greeting: GREETING,
+    login: &[OK],
+    login_id: 2,
     rows: &ROWS,
     cut: 0,
     faults: &[],
@@ -151,20 +172,19 @@ fn say(
     Ok(())
 }
 
-// A conversation with this answer to the login, and these rows.
-fn conversation(
-    rt: &impl Abort,
-    alloc: Global,
-    login: &[u8],
-    rows: &[&[u8]],
-) -> Result<Conversation, Fail> {
+// The conversation of a case.
+fn conversation(rt: &impl Abort, alloc: Global, case: &Case<'_>) -> Result<Conversation, Fail> {
     let mut talk = Conversation::new(alloc);
-    say(rt, alloc, &mut talk, 0, &[GREETING])?;
-    say(rt, alloc, &mut talk, 2, &[login])?;
+    say(rt, alloc, &mut talk, 0, &[case.greeting])?;
+    let mut id = case.login_id;
+    for answer in case.login {
+        say(rt, alloc, &mut talk, id, &[*answer])?;
+        id = id.wrapping_add(2);
+    }
     say(rt, alloc, &mut talk, 1, &[OK])?;
     say(rt, alloc, &mut talk, 1, &[OK])?;
     say(rt, alloc, &mut talk, 1, &COLUMNS)?;
-    say(rt, alloc, &mut talk, 1, rows)?;
+    say(rt, alloc, &mut talk, 1, case.rows)?;
     Ok(talk)
 }
 
@@ -230,7 +250,7 @@ struct Ended {
 
 fn run<R: Abort + Threads + Sync>(rt: &R, alloc: Global, case: &Case<'_>) -> Result<Ended, Fail> {
     let words = words_of(alloc, case.words)?;
-    let talk = conversation(rt, alloc, case.login, case.rows)?;
+    let talk = conversation(rt, alloc, case)?;
     let mut site = site_of(alloc, talk, case.faults, case.cut)?;
     let mut folder = folder_of(alloc, case.listed)?;
     let status = status_of(rt, alloc, &words, &mut site, &mut folder);
@@ -319,7 +339,7 @@ fn the_messages_are_the_same_however_the_bytes_are_cut(rt: HostRuntime) -> Resul
 #[test]
 fn an_err_in_answer_to_the_login_is_status_3(rt: HostRuntime) -> Result<(), Fail> {
     let case = Case {
-        login: REFUSED,
+        login: &[REFUSED],
         ..PLAIN
     };
     check(&rt, rt.alloc(), &case, 3, Some(1), None)
@@ -331,7 +351,7 @@ fn an_err_behind_a_row_is_status_3(rt: HostRuntime) -> Result<(), Fail> {
         rows: &ERR_BEHIND_A_ROW,
         ..PLAIN
     };
-    check(&rt, rt.alloc(), &case, 3, Some(5), None)
+    check(&rt, rt.alloc(), &case, 3, Some(6), None)
 }
 
 #[test]
@@ -376,7 +396,7 @@ fn a_cell_that_is_no_number_is_status_1(rt: HostRuntime) -> Result<(), Fail> {
         rows: &NOT_A_NUMBER,
         ..PLAIN
     };
-    check(&rt, rt.alloc(), &case, 1, Some(5), None)
+    check(&rt, rt.alloc(), &case, 1, Some(6), None)
 }
 
 #[test]
@@ -389,12 +409,69 @@ fn a_cell_more_than_columns_is_status_1(rt: HostRuntime) -> Result<(), Fail> {
 }
 
 #[test]
-fn a_switch_of_the_plugin_is_status_1(rt: HostRuntime) -> Result<(), Fail> {
+fn a_login_with_a_password_answers_the_scramble(rt: HostRuntime) -> Result<(), Fail> {
     let case = Case {
-        login: SWITCH,
+        words: &WORDS_WITH_PASSWORD,
+        ..PLAIN
+    };
+    let ended = run(&rt, rt.alloc(), &case)?;
+    assert_eq!(rt; ended.status, 0);
+    assert!(rt; ended.has_said(0, LOGIN_WITH_PASSWORD));
+    assert!(rt; ended.has_file(Some(FILE)));
+    Ok(())
+}
+
+#[test]
+fn a_switch_to_the_native_plugin_is_followed(rt: HostRuntime) -> Result<(), Fail> {
+    let case = Case {
+        words: &WORDS_WITH_PASSWORD,
+        login: &[SWITCH, OK],
+        ..PLAIN
+    };
+    let ended = run(&rt, rt.alloc(), &case)?;
+    assert_eq!(rt; ended.status, 0);
+    assert!(rt; ended.has_said(0, LOGIN_WITH_PASSWORD));
+    assert!(rt; ended.has_said(1, SWITCH_ANSWER));
+    assert!(rt; ended.has_file(Some(FILE)));
+    Ok(())
+}
+
+#[test]
+fn a_switch_to_another_plugin_is_status_1(rt: HostRuntime) -> Result<(), Fail> {
+    let case = Case {
+        words: &WORDS_WITH_PASSWORD,
+        login: &[OTHER_SWITCH],
         ..PLAIN
     };
     check(&rt, rt.alloc(), &case, 1, Some(1), None)
+}
+
+#[test]
+fn a_wrong_password_is_status_3(rt: HostRuntime) -> Result<(), Fail> {
+    let case = Case {
+        words: &WORDS_WITH_PASSWORD,
+        login: &[REFUSED],
+        ..PLAIN
+    };
+    check(&rt, rt.alloc(), &case, 3, Some(1), None)
+}
+
+#[test]
+fn a_message_with_another_id_is_status_1(rt: HostRuntime) -> Result<(), Fail> {
+    let case = Case {
+        login_id: 3,
+        ..PLAIN
+    };
+    check(&rt, rt.alloc(), &case, 1, Some(1), None)
+}
+
+#[test]
+fn protocol_9_is_status_1(rt: HostRuntime) -> Result<(), Fail> {
+    let case = Case {
+        greeting: OLD_GREETING,
+        ..PLAIN
+    };
+    check(&rt, rt.alloc(), &case, 1, Some(0), None)
 }
 
 #[test]

@@ -1,5 +1,5 @@
 use Rattle.std.proofs.Common.{◌≡◌, ◌++◌, drop}
-use Rattle.dumper_cli.specs.Texts.{column_names}
+use Rattle.dumper_cli.specs.Stage.{column_names}
 use Rattle.dumper_cli.proofs.texts.names_of.Given as goal
 
 abbrev pub invariant-loop-column : goal.invariant-loop-column

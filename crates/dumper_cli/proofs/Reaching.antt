@@ -1,0 +1,210 @@
+-- How a dump gets on, and where it stops, over a session.
+use Rattle.std.proofs.Common.{◌≡◌, ◌<◌, ◌≤◌, ◌+◌, ◌-◌, ◌^◌, ◌↔◌, ◌⊎◌, ℕ, Bool, true, false, List, [], ◌∷◌, ◌++◌, length, Option, Some, None, Result, Ok, Err, OnOk, refl, sym, ◌∙◌, ap, subst, inl, inr, arith}
+use Rattle.std.specs.Prelude.{IfErr, IfOk}
+use Rattle.link_traits.specs.Cause.{Rose}
+use Rattle.link_traits.specs.declared.link.Link.{Ghosts}
+use Rattle.my_session.specs.Awaited.{further, further_fault}
+use Rattle.my_session.specs.Halt.{Halts}
+use Rattle.my_session.specs.Session.{SessionView, Pending, wire_of, IsCounted, Runs, Asks, PendingBehind, HearsRow, HearsEnd, rows_of, failed_by}
+use Rattle.my_session.specs.Wire.{Wire, Hears}
+use Rattle.my_session.specs.declared.fault.SessionFault.{SessionFault}
+use Rattle.my_session.specs.declared.fault.SessionFault.TheVariants.{Link, Refused, Garbled, NotProtocol10, PluginUnsupported, TooLong, StreamTooLong, OutOfMemory}
+use Rattle.result_rows.specs.Reading.{Reading, Further, definition, row, end, idle, after, further_of}
+use Rattle.result_rows.specs.RowCells.{row_cells}
+use Rattle.result_rows.specs.declared.row.Row.{Row}
+use Rattle.sql_literals.specs.Literal.{Cell}
+use Rattle.sql_statements.specs.Form.{query_form}
+use Rattle.sql_statements.specs.declared.command.Command.TheVariants.{NamesBinary}
+use Rattle.sql_statements.specs.declared.form.Form.{Form}
+use Rattle.sql_statements.specs.declared.form.Form.TheVariants.{Select}
+use Rattle.sql_statements.specs.declared.query.Query.{Query}
+use Rattle.sql_statements.specs.declared.query.Query.TheVariants.{Columns as ColumnsQuery, Rows}
+use Rattle.dumper_cli.specs.Columns.{column_of, is_row_of}
+use Rattle.dumper_cli.specs.Course.{Comes, heard, IsUnfit, EndsAt, at_unfit, EndsWith, awaiting_it}
+use Rattle.dumper_cli.specs.Next.{IsReady, HasRows, IsOnward, Keeps}
+use Rattle.dumper_cli.specs.Run.{Start, SaidFront, Reached, StoppedBy, Halted}
+use Rattle.dumper_cli.specs.Stage.{Stage, sends_names, awaits_names, asks_columns, awaits_column_count, awaits_columns, asks_rows, awaits_row_count, awaits_rows, is_over, awaiting, doing, behind, with_column, with_columns, stage_if, behind_columns, behind_rows, column_names}
+use Rattle.dumper_cli.specs.Words.{Asked}
+use Rattle.dumper_cli.specs.declared.column.Column.{Column}
+use Rattle.dumper_cli.proofs.Calls.{Cause, Ends, halts_ends, ran, run_ends, described, query_ends}
+
+pub Rose-later : (a b c : ℕ) → a ≤ b → Rose b c → Rose a c
+Rose-later a b c le rose = omega arith
+
+module _ {L : Type 0} (of : Ghosts L) where
+  pub Keeps-then : (a b c : SessionView L) → Keeps of a b → Keeps of b c → Keeps of a c
+  Keeps-then a b c one two = record {
+    tells = (λ t. two.tells.0 (one.tells.0 t), λ t. one.tells.1 (two.tells.1 t));
+    later = let first = one.later in let second = two.later in omega arith;
+  }
+
+module _ {L : Type 0} (of : Ghosts L) (asked : Asked) where
+  -- the run goes on at the next stage
+  pub reached_by : (stage next : Stage) (start : Start) (old new : SessionView L) → Keeps of old new → (of.tells old.link → Comes asked start.wire stage (wire_of of old) → Comes asked start.wire next (wire_of of new)) → Reached of asked stage start old → Reached of asked next start new
+  reached_by stage next start old new keeps goes at = record {
+    later = let one = at.later in let two = keeps.later in omega arith;
+    comes = λ t. let u = keeps.tells.1 t in goes u (at.comes u);
+  }
+
+  stopped_by : (start : Start) (now : L) (fault : SessionFault) → (fault ≡ Link → Rose start.faults (of.faults now)) → (of.tells now → Cause asked start.wire fault) → StoppedBy of asked start now fault
+  stopped_by start now Link rose why = rose refl
+  stopped_by start now (Refused form refusal) rose why = why
+  stopped_by start now (Garbled place) rose why = why
+  stopped_by start now (NotProtocol10 version) rose why = why
+  stopped_by start now (PluginUnsupported name) rose why = why
+  stopped_by start now (TooLong size) rose why = why
+  stopped_by start now StreamTooLong rose why = why
+  stopped_by start now OutOfMemory rose why = tt
+
+  -- the run stops in a call
+  pub halted_by : (stage : Stage) (start : Start) (old : SessionView L) (now : L) (fault : SessionFault) → (of.tells old.link ↔ of.tells now) → of.faults old.link ≤ of.faults now → (fault ≡ Link → Rose (of.faults old.link) (of.faults now))
+      → (of.tells old.link → Comes asked start.wire stage (wire_of of old) → Ends asked start.wire fault (of.told now).sent) → Reached of asked stage start old → Halted of asked start now fault
+  halted_by stage start old now fault tells later failed ends at = record {
+    later = let one = at.later in omega arith;
+    front = λ t. let u = tells.1 t in (ends u (at.comes u)).front;
+    why = stopped_by start now fault (λ e. Rose-later start.faults (of.faults old.link) (of.faults now) at.later (failed e)) (λ t. let u = tells.1 t in (ends u (at.comes u)).why);
+  }
+
+  -- the run stops for want of memory
+  pub halted_memory : (stage : Stage) (start : Start) (now : SessionView L) → Reached of asked stage start now → Halted of asked start now.link OutOfMemory
+  halted_memory stage start now at = record { later = at.later; front = λ t. record { stage = stage; wire = wire_of of now; comes = at.comes t; sent_is = refl }; why = tt }
+
+-- ---- SET NAMES
+
+module _ {L : Type 0} (of : Ghosts L) (old new : SessionView L) where
+  pub names_ok : (result : Result (Unit {0}) SessionFault) → Keeps of old new → (of.tells old.link → Runs NamesBinary (wire_of of old) result (wire_of of new)) → OnOk result ((asked : Asked) (start : Start) → Reached of asked sends_names start old → Reached of asked asks_columns start new)
+  names_ok (Ok finished) keeps runs = λ asked start. reached_by of asked sends_names asks_columns start old new keeps (λ t comes. ran asked start.wire NamesBinary sends_names awaits_names asks_columns refl refl (λ message. refl) (wire_of of old) (wire_of of new) comes (runs t))
+  names_ok (Err fault) keeps runs = tt
+
+  pub names_err : (result : Result (Unit {0}) SessionFault) → (of.tells old.link ↔ of.tells new.link) → IsCounted (of.faults old.link) (of.faults new.link) result → (of.tells old.link → Runs NamesBinary (wire_of of old) result (wire_of of new)) → IfErr result (λ fault. (asked : Asked) (start : Start) → Reached of asked sends_names start old → Halted of asked start new.link fault)
+  names_err (Ok finished) tells counted runs = tt
+  names_err (Err fault) tells counted runs = λ asked start. halted_by of asked sends_names start old new.link fault tells counted.later (λ e. counted.failed (ap (λ (f : SessionFault). Err f) e)) (λ t comes. run_ends asked start.wire NamesBinary sends_names awaits_names asks_columns refl refl (λ message. refl) (wire_of of old) (wire_of of new) comes fault (runs t))
+
+-- ---- the queries
+
+column_turns : (reading : Reading) (message : List ℕ) → further_of reading message ≡ definition → behind (awaits_columns reading []) message ≡ Some (awaits_columns (after reading definition) [])
+column_turns reading message is = ap (λ (f : Further). behind_columns reading [] f) is
+
+row_turns : (columns : List Column) (reading : Reading) (message : List ℕ) → further_of reading message ≡ definition → behind (awaits_rows reading columns []) message ≡ Some (awaits_rows (after reading definition) columns [])
+row_turns columns reading message is = ap (λ (f : Further). behind_rows reading columns [] f) is
+
+module _ {L : Type 0} (of : Ghosts L) (asked : Asked) (old new : SessionView L) where
+  module _ (columns : ℕ) where
+    pub columns_asked : Keeps of old new → new.pending.reading ≡ rows_of columns → (of.tells old.link → Asks (ColumnsQuery asked.schema asked.table) (wire_of of old) (Ok columns) (wire_of of new)) → (start : Start) → Reached of asked asks_columns start old → Reached of asked (awaits_columns new.pending.reading []) start new
+    columns_asked keeps pending asks start = reached_by of asked asks_columns (awaits_columns new.pending.reading []) start old new keeps (λ t comes.
+        subst (λ (r : Reading). Comes asked start.wire (awaits_columns r []) (wire_of of new)) (sym pending)
+        (described asked start.wire (ColumnsQuery asked.schema asked.table) asks_columns awaits_column_count (λ reading. awaits_columns reading []) refl refl (λ message. refl) (λ reading. refl) column_turns (λ steps is. is) (λ steps awaited lead. lead) (λ steps payload lead. lead) (wire_of of old) (wire_of of new) comes (asks t).steps (rows_of columns) (wire_of of new) (asks t).so (asks t).leads))
+
+    pub rows_asked : (list : List Column) → Keeps of old new → new.pending.reading ≡ rows_of columns → (of.tells old.link → Asks (Rows (column_names list) asked.schema asked.table) (wire_of of old) (Ok columns) (wire_of of new)) → (start : Start) → Reached of asked (asks_rows list) start old → Reached of asked (awaits_rows new.pending.reading list []) start new
+    rows_asked list keeps pending asks start = reached_by of asked (asks_rows list) (awaits_rows new.pending.reading list []) start old new keeps (λ t comes.
+        subst (λ (r : Reading). Comes asked start.wire (awaits_rows r list []) (wire_of of new)) (sym pending)
+        (described asked start.wire (Rows (column_names list) asked.schema asked.table) (asks_rows list) (awaits_row_count list) (λ reading. awaits_rows reading list []) refl refl (λ message. refl) (λ reading. refl) (row_turns list) (λ steps is. is) (λ steps awaited lead. lead) (λ steps payload lead. lead) (wire_of of old) (wire_of of new) comes (asks t).steps (rows_of columns) (wire_of of new) (asks t).so (asks t).leads))
+
+  module _ (fault : SessionFault) (tells : of.tells old.link ↔ of.tells new.link) (counted : IsCounted {A = ℕ} (of.faults old.link) (of.faults new.link) (Err fault)) where
+    pub columns_unasked : (of.tells old.link → Asks (ColumnsQuery asked.schema asked.table) (wire_of of old) (Err fault) (wire_of of new)) → (start : Start) → Reached of asked asks_columns start old → Halted of asked start new.link fault
+    columns_unasked asks start = halted_by of asked asks_columns start old new.link fault tells counted.later (λ e. counted.failed (ap (λ (f : SessionFault). Err f) e)) (λ t comes.
+        query_ends asked start.wire (ColumnsQuery asked.schema asked.table) asks_columns awaits_column_count (λ reading. awaits_columns reading []) refl refl (λ message. refl) (λ reading. refl) column_turns (λ steps is. is) (λ steps awaited lead. lead) (λ steps payload lead. lead) (wire_of of old) (wire_of of new) comes fault (asks t))
+
+    pub rows_unasked : (list : List Column) → (of.tells old.link → Asks (Rows (column_names list) asked.schema asked.table) (wire_of of old) (Err fault) (wire_of of new)) → (start : Start) → Reached of asked (asks_rows list) start old → Halted of asked start new.link fault
+    rows_unasked list asks start = halted_by of asked (asks_rows list) start old new.link fault tells counted.later (λ e. counted.failed (ap (λ (f : SessionFault). Err f) e)) (λ t comes.
+        query_ends asked start.wire (Rows (column_names list) asked.schema asked.table) (asks_rows list) (awaits_row_count list) (λ reading. awaits_rows reading list []) refl refl (λ message. refl) (λ reading. refl) (row_turns list) (λ steps is. is) (λ steps awaited lead. lead) (λ steps payload lead. lead) (wire_of of old) (wire_of of new) comes fault (asks t))
+
+-- ---- the rows
+
+-- a message has bytes
+pub onward_by : {L : Type 0} (of : Ghosts L) (old new : SessionView L) (message : List ℕ) → Hears message (wire_of of old) (wire_of of new) → IsOnward old new
+onward_by of old new message hears = record { more = (let place = hears.place in omega arith); within = hears.within }
+
+-- so many calls are left of 2^64 - 1, each of which heard a message
+abbrev pub Spent : ℕ → ℕ → Type 0
+Spent left place = (left ≡ 2 ^ 64 - 1) ⊎ ((place ≤ 2 ^ 62) × (2 ^ 64 - 1 ≤ left + place))
+
+pub spent_more : {L : Type 0} (left : ℕ) (old new : SessionView L) → 0 < left → Spent left old.place → IsOnward old new → Spent (left - 1) new.place
+spent_more left old new some (inl all) onward = let more = onward.more in let within = onward.within in inr (within, omega arith)
+spent_more left old new some (inr few) onward = let more = onward.more in let within = onward.within in let enough = few.1 in inr (within, omega arith)
+
+-- none are left on no session
+pub spent_all : (left place : ℕ) → left ≡ 0 → Spent left place → ⊥
+spent_all left place none (inl all) = omega arith
+spent_all left place none (inr few) = let within = few.0 in let enough = few.1 in omega arith
+
+module _ {L : Type 0} (of : Ghosts L) (asked : Asked) where
+  -- 2^64 - 1 messages don't come
+  pub exhausted : (stage : Stage) (start : Start) (now : SessionView L) → (of.tells now.link → ⊥) → Reached of asked stage start now → Halted of asked start now.link StreamTooLong
+  exhausted stage start now never at = record { later = at.later; front = λ t. record { stage = stage; wire = wire_of of now; comes = at.comes t; sent_is = refl }; why = λ t. absurd (never t) }
+
+module _ {L : Type 0} (of : Ghosts L) (asked : Asked) (start : Start) (old new : SessionView L) (keeps : Keeps of old new) where
+  -- a message came that a session goes on at and a dump doesn't
+  module _ (stage : Stage) (waits : doing asked stage ≡ awaiting (further Select old.pending.reading)) (message : List ℕ) (unfit : behind stage message ≡ None) where
+    unfit_ends : Hears message (wire_of of old) (wire_of of new) → further_fault Select old.place (further_of old.pending.reading message) ≡ None → Comes asked start.wire stage (wire_of of old) → Ends asked start.wire (Garbled old.place) (of.told new.link).sent
+    unfit_ends hears goes_on comes = record {
+      front = record { stage = stage; wire = wire_of of old; comes = comes; sent_is = hears.sent };
+      why = awaiting_it comes waits (at_unfit record { message = message; new = wire_of of new; hears = hears; goes_on = goes_on; unfit = unfit });
+    }
+
+  module _ (found : Row) (hears : of.tells old.link → HearsRow old.pending.reading found (wire_of of old) (wire_of of new)) where
+    row_goes_on : (message : List ℕ) → further_of old.pending.reading message ≡ row (row_cells found) → further_fault Select old.place (further_of old.pending.reading message) ≡ None
+    row_goes_on message is = ap (λ (f : Further). further_fault Select old.place f) is
+
+    pub column_added : (columns more : List Column) (column : Column) → column_of (row_cells found) ≡ Some column → more ≡ columns ++ column ∷ [] → Reached of asked (awaits_columns old.pending.reading columns) start old → Reached of asked (awaits_columns old.pending.reading more) start new
+    column_added columns more column column_is more_is = reached_by of asked (awaits_columns old.pending.reading columns) (awaits_columns old.pending.reading more) start old new keeps (λ t comes.
+        let row = hears t in
+        heard comes refl row.heard (row_goes_on row.message row.row_is)
+        (ap (λ (f : Further). behind_columns old.pending.reading columns f) row.row_is ∙ ap (λ (c : Option Column). with_column (awaits_columns old.pending.reading) columns c) column_is ∙ ap (λ (l : List Column). Some (awaits_columns old.pending.reading l)) (sym more_is)))
+
+    pub row_added : (columns : List Column) (rows : List (List Cell)) → is_row_of columns (row_cells found) ≡ true → Reached of asked (awaits_rows old.pending.reading columns rows) start old → Reached of asked (awaits_rows old.pending.reading columns (rows ++ row_cells found ∷ [])) start new
+    row_added columns rows fits = reached_by of asked (awaits_rows old.pending.reading columns rows) (awaits_rows old.pending.reading columns (rows ++ row_cells found ∷ [])) start old new keeps (λ t comes.
+        let row = hears t in
+        heard comes refl row.heard (row_goes_on row.message row.row_is)
+        (ap (λ (f : Further). behind_rows old.pending.reading columns rows f) row.row_is ∙ ap (λ (b : Bool). stage_if b (awaits_rows old.pending.reading columns (rows ++ row_cells found ∷ []))) fits))
+
+    pub column_unfit : (columns : List Column) → column_of (row_cells found) ≡ None → Reached of asked (awaits_columns old.pending.reading columns) start old → Halted of asked start new.link (Garbled found.place)
+    column_unfit columns none = halted_by of asked (awaits_columns old.pending.reading columns) start old new.link (Garbled found.place) keeps.tells keeps.later (λ e. absurd (cc)) (λ t comes.
+        let row = hears t in
+        subst (λ (p : ℕ). Ends asked start.wire (Garbled p) (of.told new.link).sent) (sym row.place_is)
+        (unfit_ends (awaits_columns old.pending.reading columns) refl row.message (ap (λ (f : Further). behind_columns old.pending.reading columns f) row.row_is ∙ ap (λ (c : Option Column). with_column (awaits_columns old.pending.reading) columns c) none) row.heard (row_goes_on row.message row.row_is) comes))
+
+    pub row_unfit : (columns : List Column) (rows : List (List Cell)) → is_row_of columns (row_cells found) ≡ false → Reached of asked (awaits_rows old.pending.reading columns rows) start old → Halted of asked start new.link (Garbled found.place)
+    row_unfit columns rows unfit = halted_by of asked (awaits_rows old.pending.reading columns rows) start old new.link (Garbled found.place) keeps.tells keeps.later (λ e. absurd (cc)) (λ t comes.
+        let row = hears t in
+        subst (λ (p : ℕ). Ends asked start.wire (Garbled p) (of.told new.link).sent) (sym row.place_is)
+        (unfit_ends (awaits_rows old.pending.reading columns rows) refl row.message (ap (λ (f : Further). behind_rows old.pending.reading columns rows f) row.row_is ∙ ap (λ (b : Bool). stage_if b (awaits_rows old.pending.reading columns (rows ++ row_cells found ∷ []))) unfit) row.heard (row_goes_on row.message row.row_is) comes))
+
+    -- the run stops at a row for want of memory, or stands there
+    pub row_front : (stage : Stage) → Reached of asked stage start old → of.tells new.link → SaidFront asked start.wire (of.told new.link).sent
+    row_front stage at t = let u = keeps.tells.1 t in record { stage = stage; wire = wire_of of old; comes = at.comes u; sent_is = (hears u).heard.sent }
+
+    pub row_memory : (stage : Stage) → Reached of asked stage start old → Halted of asked start new.link OutOfMemory
+    row_memory stage at = record { later = let one = at.later in let two = keeps.later in omega arith; front = row_front stage at; why = tt }
+
+  module _ (hears : of.tells old.link → HearsEnd old.pending.reading (wire_of of old) (wire_of of new)) where
+    end_goes_on : (message : List ℕ) → further_of old.pending.reading message ≡ end → further_fault Select old.place (further_of old.pending.reading message) ≡ None
+    end_goes_on message is = ap (λ (f : Further). further_fault Select old.place f) is
+
+    pub rows_end : (columns : List Column) (rows : List (List Cell)) → Reached of asked (awaits_rows old.pending.reading columns rows) start old → Reached of asked (is_over columns rows) start new
+    rows_end columns rows = reached_by of asked (awaits_rows old.pending.reading columns rows) (is_over columns rows) start old new keeps (λ t comes.
+        let last = hears t in
+        heard comes refl last.heard (end_goes_on last.message last.end_is) (ap (λ (f : Further). behind_rows old.pending.reading columns rows f) last.end_is))
+
+    columns_so : (columns : List Column) → 0 < length columns → with_columns columns ≡ Some (asks_rows columns)
+    columns_so [] some = absurd (omega arith)
+    columns_so (column ∷ columns) some = refl
+
+    columns_none : (columns : List Column) → length columns ≡ 0 → with_columns columns ≡ None
+    columns_none [] none = refl
+    columns_none (column ∷ columns) none = absurd (omega (arith, none))
+
+    pub columns_end : (columns : List Column) → 0 < length columns → Reached of asked (awaits_columns old.pending.reading columns) start old → Reached of asked (asks_rows columns) start new
+    columns_end columns some = reached_by of asked (awaits_columns old.pending.reading columns) (asks_rows columns) start old new keeps (λ t comes.
+        let last = hears t in
+        heard comes refl last.heard (end_goes_on last.message last.end_is) (ap (λ (f : Further). behind_columns old.pending.reading columns f) last.end_is ∙ columns_so columns some))
+
+    pub no_columns : (columns : List Column) → length columns ≡ 0 → Reached of asked (awaits_columns old.pending.reading columns) start old → Halted of asked start new.link (Garbled old.place)
+    no_columns columns none = halted_by of asked (awaits_columns old.pending.reading columns) start old new.link (Garbled old.place) keeps.tells keeps.later (λ e. absurd (cc)) (λ t comes.
+        let last = hears t in
+        unfit_ends (awaits_columns old.pending.reading columns) refl last.message (ap (λ (f : Further). behind_columns old.pending.reading columns f) last.end_is ∙ columns_none columns none) last.heard (end_goes_on last.message last.end_is) comes)
+
+  module _ (form_is : old.pending.form ≡ Select) (fault : SessionFault) (failed : fault ≡ Link → Rose (of.faults old.link) (of.faults new.link)) (halts : of.tells old.link → Halts (further old.pending.form old.pending.reading) (wire_of of old) fault (wire_of of new)) where
+    pub row_halts : (stage : Stage) → doing asked stage ≡ awaiting (further Select old.pending.reading) → Reached of asked stage start old → Halted of asked start new.link fault
+    row_halts stage waits = halted_by of asked stage start old new.link fault keeps.tells keeps.later failed (λ t comes.
+        halts_ends asked start.wire stage (wire_of of old) (wire_of of new) comes (further Select old.pending.reading) waits fault (subst (λ (f : Form). Halts (further f old.pending.reading) (wire_of of old) fault (wire_of of new)) form_is (halts t)))

@@ -1,0 +1,15 @@
+use Rattle.std.proofs.Common.{ap}
+use Rattle.my_session.specs.Session.{Pending}
+use Rattle.dumper_cli.specs.AskedBy.{asked_by}
+use Rattle.dumper_cli.proofs.Reaching.{columns_asked, columns_unasked}
+use Rattle.dumper_cli.proofs.columns.ask_columns.Goals as goal
+
+pub returns-in-Ok-clause-ok : goal.returns-in-Ok-clause-ok
+returns-in-Ok-clause-ok g c =
+    let asks = rw (c.of-schema.ensures, c.as_slice.ensures.value, c.of-table.ensures, c.as_slice-2.ensures.value) at c.in-Ok.ensures.asks in
+    columns_asked g.L.Link (asked_by c.args.words.now) c.args.session.now c.query.new.self c.in-Ok.field-0 (record { tells = c.in-Ok.ensures.tells; later = c.in-Ok.ensures.counted.later }) (ap (λ (p : Pending). p.reading) c.in-Ok.ensures.pending) asks
+
+pub returns-clause-err : goal.returns-clause-err
+returns-clause-err g c =
+    let asks = rw (c.of-schema.ensures, c.as_slice.ensures.value, c.of-table.ensures, c.as_slice-2.ensures.value) at c.in-Err.ensures.asks in
+    columns_unasked g.L.Link (asked_by c.args.words.now) c.args.session.now c.query.new.self c.in-Err.fault c.in-Err.ensures.tells c.in-Err.ensures.counted asks
