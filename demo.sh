@@ -1,11 +1,15 @@
 #!/usr/bin/env bash
 # Shows mydumper at work: starts a real server on files in a temporary folder, makes two tables, one of
 # them with a single text of 40 MiB, dumps them, loads the files with the server's own client into a
-# second database, and compares the tables. The status is 0 exactly where they are equal.
+# second database, and compares the tables. One table is dumped by an account with a password too, and
+# is refused where the password is wrong. The status is 0 exactly where all of it is as it should be.
 set -u
 
 PORT=3306
 ACCOUNT=reader
+GUARDED=keeper
+PASSWORD=secret
+WRONG=sesame
 SOURCE=shop
 TARGET=shop_again
 TABLE=items
@@ -124,6 +128,7 @@ make_tables() {
     client <<SQL || fail "the tables were not made"
 SET sql_mode='';
 CREATE USER '$ACCOUNT'@'127.0.0.1' IDENTIFIED WITH mysql_native_password USING '';
+CREATE USER '$GUARDED'@'127.0.0.1' IDENTIFIED WITH mysql_native_password USING PASSWORD('$PASSWORD');
 CREATE DATABASE $SOURCE CHARACTER SET utf8mb4;
 CREATE TABLE $SOURCE.$TABLE (
   id int NOT NULL PRIMARY KEY,
@@ -134,7 +139,7 @@ CREATE TABLE $SOURCE.$TABLE (
   note text,
   seen timestamp NULL
 );
-GRANT SELECT ON $SOURCE.$TABLE TO '$ACCOUNT'@'127.0.0.1';
+GRANT SELECT ON $SOURCE.$TABLE TO '$ACCOUNT'@'127.0.0.1', '$GUARDED'@'127.0.0.1';
 INSERT INTO $SOURCE.$TABLE VALUES
 (1, 18446744073709551615, -0.50, 'it''s', 'klein', 'a "quoted" word', '2024-05-01 12:00:00'),
 (2, 0, 12345678.90, 'C:\\\\dir', 'groß', 'two\nlines\r\n', NULL),
@@ -172,14 +177,32 @@ long_text_of() {
     client --batch --skip-column-names -e "SELECT COUNT(*), SUM(LENGTH(note)), MAX(MD5(note)) FROM $1.$LONG_TABLE"
 }
 
-# Dumps a table of $SOURCE into this new folder; the file is $file then.
+# Runs mydumper with these words; its status is $status then.
+run() {
+    say "mydumper $*"
+    (cd "$folder" && "$program" "$@")
+    status=$?
+}
+
+# Dumps a table of $SOURCE into this new folder, by the account of the further words; the file is $file then.
 dump() {
-    local words=(-u "$ACCOUNT" -B "$SOURCE" -T "$1" -o "$2")
-    say "mydumper ${words[*]}"
-    (cd "$folder" && "$program" "${words[@]}") || fail "mydumper ended with status $?"
-    file=$folder/$2/$SOURCE.$1.00000.sql
-    [ -f "$file" ] || fail "there is no file $SOURCE.$1.00000.sql"
-    say "$2/$SOURCE.$1.00000.sql, $(wc -c <"$file") bytes"
+    local table=$1 into=$2
+    shift 2
+    run "$@" -B "$SOURCE" -T "$table" -o "$into"
+    [ "$status" -eq 0 ] || fail "mydumper ended with status $status"
+    file=$folder/$into/$SOURCE.$table.00000.sql
+    [ -f "$file" ] || fail "there is no file $SOURCE.$table.00000.sql"
+    say "$into/$SOURCE.$table.00000.sql, $(wc -c <"$file") bytes"
+}
+
+# A login that the server refuses: the status is 3, and nothing is written into the new folder.
+be_refused() {
+    local into=$1
+    shift
+    run "$@" -B "$SOURCE" -T "$TABLE" -o "$into"
+    [ "$status" -eq 3 ] || fail "mydumper ended with status $status, and not with 3"
+    [ -d "$folder/$into" ] && [ -z "$(ls -A "$folder/$into")" ] || fail "the folder $into isn't empty"
+    say "status $status, and $into is empty"
 }
 
 load() {
@@ -199,13 +222,19 @@ say "starting $("$mariadbd" --no-defaults --version | sed 's/^[^ ]* *//')"
 start_server
 make_tables
 
-dump "$TABLE" dump
+dump "$TABLE" dump -u "$ACCOUNT"
 cat "$file"
+first=$file
 load
 compare_tables || fail "$SOURCE.$TABLE and $TARGET.$TABLE are not equal"
 say "$SOURCE.$TABLE and $TARGET.$TABLE: $(wc -l <"$folder/source.rows") rows, equal"
 
-dump "$LONG_TABLE" dump_long
+dump "$TABLE" dump_keeper -u "$GUARDED" -p "$PASSWORD"
+cmp "$first" "$file" || fail "the two files of $SOURCE.$TABLE are not equal"
+say "the two files of $SOURCE.$TABLE: equal"
+be_refused dump_refused -u "$GUARDED" -p "$WRONG"
+
+dump "$LONG_TABLE" dump_long -u "$ACCOUNT"
 load
 dumped=$(long_text_of "$SOURCE") && loaded=$(long_text_of "$TARGET") || fail "the texts were not read"
 [ -n "$dumped" ] && [ "$dumped" = "$loaded" ] || fail "$SOURCE.$LONG_TABLE and $TARGET.$LONG_TABLE are not equal"

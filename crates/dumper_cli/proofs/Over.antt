@@ -1,5 +1,5 @@
 -- A whole dump, from the session to the link.
-use Rattle.std.proofs.Common.{◌≡◌, ◌≤◌, ◌↔◌, ℕ, Bool, true, false, List, [], ◌∷◌, ◌++◌, refl, sym, ◌∙◌, ap, subst, inl, inr, arith}
+use Rattle.std.proofs.Common.{◌≡◌, ◌≤◌, ◌↔◌, ℕ, Bool, true, false, List, [], ◌∷◌, ◌++◌, Result, Ok, Err, OnOk, refl, sym, ◌∙◌, ap, subst, inl, inr, arith}
 use Rattle.link_traits.specs.Cause.{Rose}
 use Rattle.link_traits.specs.declared.link.Link.{Ghosts as LinkGhosts}
 use Rattle.link_traits.specs.declared.folder.Shelf.{Ghosts as ShelfGhosts}
@@ -8,15 +8,21 @@ use Rattle.my_session.specs.declared.fault.SessionFault.{SessionFault}
 use Rattle.my_session.specs.declared.fault.SessionFault.TheVariants.{Link, Refused, Garbled, NotProtocol10, PluginUnsupported, TooLong, StreamTooLong, OutOfMemory}
 use Rattle.my_session.specs.declared.session.TheConstants.{QUIT}
 use Rattle.dumper_cli.specs.Next.{IsReady, Keeps, Stands, Broke}
-use Rattle.dumper_cli.specs.OverLink.{Conversed, LinkDumped, StoppedOver, FrontSaid, LinkStopped}
+use Rattle.dumper_cli.specs.OverLink.{Tabled, Conversed, LinkDumped, StoppedOver, FrontSaid, LinkStopped}
 use Rattle.dumper_cli.specs.Run.{Start, Reached, SaidFront, StoppedBy, Halted}
-use Rattle.dumper_cli.specs.Stage.{Stage, sends_names}
+use Rattle.dumper_cli.specs.Stage.{Stage, sends_names, awaits_rows}
 use Rattle.dumper_cli.specs.Words.{Asked}
+use Rattle.dumper_cli.specs.declared.column.Column.{Column}
 use Rattle.dumper_cli.specs.declared.fault.DumpFault.{DumpFault}
 use Rattle.dumper_cli.specs.declared.fault.DumpFault.TheVariants.{FolderNotEmpty, File, Session as InSession}
 use Rattle.dumper_cli.proofs.Calls.{Cause, Ends, logged_in, login_ends}
 use Rattle.dumper_cli.proofs.Reaching.{Rose-later}
 use Rattle.dumper_cli.proofs.Sayings.{all_is_said}
+
+-- two facts behind Ok
+pub on_ok_both : {T E P Q R : Type 0} (result : Result T E) → (P → Q → R) → OnOk result P → OnOk result Q → OnOk result R
+on_ok_both (Ok value) both p q = both p q
+on_ok_both (Err fault) both p q = tt
 
 Rose-further : (a b c : ℕ) → Rose a b → b ≤ c → Rose a c
 Rose-further a b c rose le = omega arith
@@ -37,6 +43,20 @@ module _ {L : Type 0} (of : LinkGhosts L) (asked : Asked) where
   reached_by_login a session logged = record { later = logged.later; comes = λ t. logged_in asked (fresh of a) (wire_of of session) (logged.takes (logged.tells.1 t)) }
 
 module _ {L S : Type 0} (link : LinkGhosts L) (shelf : ShelfGhosts S) (asked : Asked) where
+  -- a run that broke off, where the shelves are these
+  pub Broke-at : (start : Start) (first before behind last : S) (new : L) (fault : DumpFault) → first ≡ before → last ≡ behind → Broke link shelf asked start first new behind fault → Broke link shelf asked start before new last fault
+  Broke-at start first before behind last new fault same same_too broke =
+      subst (λ (s : S). Broke link shelf asked start s new last fault) same (subst (λ (s : S). Broke link shelf asked start first new s fault) (sym same_too) broke)
+
+  -- the rows of a table, behind the query for them
+  pub Conversed-tabled : (columns : List Column) (session middle new : SessionView L) (before behind : S) → ((start : Start) → Reached link asked sends_names start session → Reached link asked (awaits_rows middle.pending.reading columns []) start middle) → Tabled link shelf asked.schema asked.table columns middle before new behind → Conversed link shelf asked session before new behind
+  Conversed-tabled columns session middle new before behind reached tabled = record {
+    columns = columns;
+    rows = tabled.rows;
+    reached = λ start at. tabled.reached asked start (reached start at);
+    made = tabled.made;
+  }
+
   stopped_over : (a b : L) (before behind : S) (fault : SessionFault) → (fault ≡ Link → Rose (link.faults a) (link.faults b)) → (link.tells b → Cause asked (fresh link a) fault) → StoppedOver link shelf asked a before b behind (InSession fault)
   stopped_over a b before behind Link rose why = rose refl
   stopped_over a b before behind (Refused form refusal) rose why = why

@@ -141,7 +141,9 @@ const PLAIN: Case<'static> = Case {
 fn of_rows<'a>(rows: &'a [&'a [u8]]) -> Case<'a> {
     Case {
         words: &WORDS,
-        login: OK,
+        greeting: GREETING,
+        login: &[OK],
+        login_id: 2,
         rows,
         cut: 0,
         faults: &[],

@@ -1,0 +1,20 @@
+use Rattle.std.proofs.lemmas.Result.{IfErr-weaker}
+use Rattle.dumper_cli.specs.AskedBy.{asked_by}
+use Rattle.dumper_cli.proofs.Over.{on_ok_both, ready_behind_login, LinkStopped-login, LinkDumped-conversed, LinkStopped-broke}
+use Rattle.dumper_cli.proofs.conversation.dump_over_link.Goals as goal
+
+pub converse-requires-clause-ready : goal.converse-requires-clause-ready
+converse-requires-clause-ready g c = ready_behind_login g.L.Link (asked_by c.args.words.now) c.args.link c.in-Ok.session (rw c.as_slice.ensures.value at c.in-Ok.ensures)
+
+pub returns-in-Err-clause-err : goal.returns-in-Err-clause-err
+returns-in-Err-clause-err g c = LinkStopped-login g.L.Link g.S.Shelf (asked_by c.args.words.now) c.args.link c.in-Err.link c.args.shelf c.in-Err.fault (rw c.as_slice.ensures.value at c.in-Err.ensures)
+
+pub returns-clause-ok : goal.returns-clause-ok
+returns-clause-ok g c = on_ok_both c.converse-shelf.result.1 (λ ready conversed.
+    LinkDumped-conversed g.L.Link g.S.Shelf (asked_by c.args.words.now) c.args.link c.close.result c.in-Ok.session c.converse-shelf.new.session c.args.shelf c.converse-shelf.result.0 (rw c.as_slice.ensures.value at c.in-Ok.ensures) c.close.ensures ready conversed)
+    c.converse-shelf.ensures.ready c.converse-shelf.ensures.ok
+
+pub returns-clause-err : goal.returns-clause-err
+returns-clause-err g c = IfErr-weaker c.converse-shelf.result.1 _ _ (λ fault broke.
+    LinkStopped-broke g.L.Link g.S.Shelf (asked_by c.args.words.now) c.args.link c.close.result c.in-Ok.session c.converse-shelf.new.session c.args.shelf c.converse-shelf.result.0 (rw c.as_slice.ensures.value at c.in-Ok.ensures) c.close.ensures fault broke)
+    c.converse-shelf.ensures.err
