@@ -28,6 +28,10 @@ is_free_word (byte ∷ bytes) = not (byte == 45)
 abbrev pub are_options : List ℕ → List ℕ → List ℕ → List ℕ → Bool
 are_options a b c d = bytes_eq a (codes "-u") && bytes_eq b (codes "-B") && bytes_eq c (codes "-T") && bytes_eq d (codes "-o")
 
+-- the option of a password, and the password
+abbrev pub is_password : List ℕ → List ℕ → Bool
+is_password option password = bytes_eq option (codes "-p") && is_free_word password
+
 -- each word has its form
 abbrev pub are_words : Asked → Bool
 are_words asked = is_plain_word asked.user && is_plain_word asked.schema && is_plain_word asked.table && is_free_word asked.path
@@ -43,7 +47,7 @@ without_password words = None
 
 -- the same with `-p PASSWORD` behind the user
 abbrev pub with_password : List (List ℕ) → Option Asked
-with_password (a ∷ user ∷ p ∷ password ∷ b ∷ schema ∷ c ∷ table ∷ d ∷ path ∷ []) = asked_if (are_options a b c d && bytes_eq p (codes "-p") && is_free_word password && are_words (record { user = user; password = password; schema = schema; table = table; path = path })) (record { user = user; password = password; schema = schema; table = table; path = path })
+with_password (a ∷ user ∷ p ∷ password ∷ b ∷ schema ∷ c ∷ table ∷ d ∷ path ∷ []) = asked_if (are_options a b c d && is_password p password && are_words (record { user = user; password = password; schema = schema; table = table; path = path })) (record { user = user; password = password; schema = schema; table = table; path = path })
 with_password words = None
 
 -- exactly the eight words `-u USER -B SCHEMA -T TABLE -o PATH`, or ten with `-p PASSWORD` behind the user

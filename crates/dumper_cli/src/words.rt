@@ -2,7 +2,7 @@
 ghost use Rattle.std.specs.Prelude.{◌≡◌, Some, None, MatchOption};
 ghost use Rattle.std.specs.List.{list_all};
 ghost use Rattle.dumper_cli.specs.AskedBy.{asked_by};
-ghost use Rattle.dumper_cli.specs.Words.{is_word_byte, is_plain_word, is_free_word, are_options, are_words, without_password, with_password, asked_of};
+ghost use Rattle.dumper_cli.specs.Words.{is_word_byte, is_plain_word, is_free_word, are_options, is_password, are_words, without_password, with_password, asked_of};
 
 use sql_literals::{Name, NameList};
 
@@ -57,6 +57,13 @@ fn are_options(user: &Name, schema: &Name, table: &Name, path: &Name) -> bool
         && path.as_str() == "-o"
 }
 
+// The option of a password, and the password.
+fn is_password(option: &Name, password: &Name) -> bool
+    ensures { result ≡ is_password option.now password.now }
+{
+    option.as_str() == "-p" && is_free_word(password)
+}
+
 // Each word has its form.
 fn are_words(words: &Words<'_>) -> bool
     ensures { result ≡ are_words (asked_by words.now) }
@@ -101,11 +108,7 @@ fn with_password(words: &[Name]) -> Option<Words<'_>>
         table,
         path,
     };
-    if are_options(a, b, c, d)
-        && p.as_str() == "-p"
-        && is_free_word(password)
-        && are_words(&found)
-    {
+    if are_options(a, b, c, d) && is_password(p, password) && are_words(&found) {
         return Some(found);
     }
     None
