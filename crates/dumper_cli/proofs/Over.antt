@@ -7,7 +7,7 @@ use Rattle.my_session.specs.Session.{SessionView, wire_of, fresh, LoggedIn, Logi
 use Rattle.my_session.specs.declared.fault.SessionFault.{SessionFault}
 use Rattle.my_session.specs.declared.fault.SessionFault.TheVariants.{Link, Refused, Garbled, NotProtocol10, PluginUnsupported, TooLong, StreamTooLong, OutOfMemory}
 use Rattle.my_session.specs.declared.session.TheConstants.{QUIT}
-use Rattle.dumper_cli.specs.Next.{IsReady, Keeps, Stands, Broke}
+use Rattle.dumper_cli.specs.Next.{IsReady, Stands, Broke}
 use Rattle.dumper_cli.specs.OverLink.{Tabled, Conversed, LinkDumped, StoppedOver, FrontSaid, LinkStopped}
 use Rattle.dumper_cli.specs.Run.{Start, Reached, SaidFront, StoppedBy, Halted}
 use Rattle.dumper_cli.specs.Stage.{Stage, sends_names, awaits_rows}
@@ -35,9 +35,6 @@ module _ {L : Type 0} (of : LinkGhosts L) (asked : Asked) where
   -- a link at a run's start
   abbrev pub start_of : L → Start
   start_of link = record { wire = fresh of link; faults = of.faults link }
-
-  pub ready_behind_login : (a : L) (session : SessionView L) → LoggedIn of asked.user asked.password a session → IsReady session
-  ready_behind_login a session logged = record { alive = logged.alive; none_pending = logged.idle }
 
   pub reached_by_login : (a : L) (session : SessionView L) → LoggedIn of asked.user asked.password a session → Reached of asked sends_names (start_of a) session
   reached_by_login a session logged = record { later = logged.later; comes = λ t. logged_in asked (fresh of a) (wire_of of session) (logged.takes (logged.tells.1 t)) }

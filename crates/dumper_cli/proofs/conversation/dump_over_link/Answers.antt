@@ -1,10 +1,7 @@
 use Rattle.std.proofs.lemmas.Result.{IfErr-weaker}
 use Rattle.dumper_cli.specs.AskedBy.{asked_by}
-use Rattle.dumper_cli.proofs.Over.{on_ok_both, ready_behind_login, LinkStopped-login, LinkDumped-conversed, LinkStopped-broke}
+use Rattle.dumper_cli.proofs.Over.{on_ok_both, LinkStopped-login, LinkDumped-conversed, LinkStopped-broke}
 use Rattle.dumper_cli.proofs.conversation.dump_over_link.Goals as goal
-
-pub converse-requires-clause-ready : goal.converse-requires-clause-ready
-converse-requires-clause-ready g c = ready_behind_login g.L.Link (asked_by c.args.words.now) c.args.link c.in-Ok.session (rw c.as_slice.ensures.value at c.in-Ok.ensures)
 
 pub returns-in-Err-clause-err : goal.returns-in-Err-clause-err
 returns-in-Err-clause-err g c = LinkStopped-login g.L.Link g.S.Shelf (asked_by c.args.words.now) c.args.link c.in-Err.link c.args.shelf c.in-Err.fault (rw c.as_slice.ensures.value at c.in-Err.ensures)
