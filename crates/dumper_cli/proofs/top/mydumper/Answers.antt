@@ -35,8 +35,7 @@ returns-clause-exact g c = λ asked is.
 
 pub returns-clause-full : goal.returns-clause-full
 returns-clause-full g c = λ asked is.
-    let same : asked ≡ asked_by c.in-Some.words = (let found = c.in-Some.ensures in cc) in
-    rw c.exit_status.ensures (refuses_full (asked_by c.in-Some.words) _ _ _ _ _ _ c.dump-ended.result (on_ok_weaker c.dump-ended.result (λ dumped. dumped.was_empty) c.dump-ended.ensures.ok) c.dump-ended.ensures.empty c.dump-ended.ensures.err)
+    rw c.exit_status.ensures (refuses_full (asked_by c.in-Some.words) (g.S.Site.tells c.args.site.now) (g.S.Site.told c.args.site.now) _ _ _ _ c.dump-ended.result (on_ok_weaker c.dump-ended.result (λ dumped. dumped.was_empty) c.dump-ended.ensures.ok) c.dump-ended.ensures.empty c.dump-ended.ensures.err)
 
 pub returns-clause-said : goal.returns-clause-said
 returns-clause-said g c = λ asked is other t.
