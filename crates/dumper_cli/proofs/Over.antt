@@ -81,14 +81,13 @@ module _ {L S : Type 0} (link : LinkGhosts L) (shelf : ShelfGhosts S) (asked : A
         record {
           columns = conversed.columns;
           rows = conversed.rows;
+          heard = λ t. record { wire = wire_of link new; comes = over.comes (closes.tells.1 t) };
           all_said = λ t.
               let u = closes.tells.1 t in
               record {
-                messages = (link.told new.link).sent;
                 are_all = λ none. all_is_said asked conversed.columns conversed.rows (fresh link a) (wire_of link new) none (over.comes u);
                 quits = elim (closes.quits ready.alive u) [ inl e ↦ inl e | inr e ↦ inr (e.0, Rose-later _ _ _ over.later e.1) ];
               };
-          heard = λ t. record { wire = wire_of link new; comes = over.comes (closes.tells.1 t) };
           made = conversed.made;
         }
 

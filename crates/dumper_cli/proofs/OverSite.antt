@@ -9,10 +9,11 @@ use Rattle.my_session.specs.Session.{fresh}
 use Rattle.my_session.specs.Wire.{Wire}
 use Rattle.my_session.specs.declared.fault.SessionFault.{SessionFault}
 use Rattle.my_session.specs.declared.fault.SessionFault.TheVariants.{Link, Refused, Garbled, NotProtocol10, PluginUnsupported, TooLong, StreamTooLong, OutOfMemory}
-use Rattle.dumper_cli.specs.Course.{IsWhole, EndsWith}
+use Rattle.dumper_cli.specs.Course.{Comes, IsWhole, EndsWith}
 use Rattle.dumper_cli.specs.Outside.{next_wire, SaidAtMost, a_front, a_goodbye, EndedBy, SiteTabled}
 use Rattle.dumper_cli.specs.OverLink.{LinkDumped, LinkStopped, StoppedOver}
 use Rattle.dumper_cli.specs.Run.{SaidFront}
+use Rattle.dumper_cli.specs.Stage.{is_over}
 use Rattle.dumper_cli.specs.Words.{Asked}
 use Rattle.dumper_cli.specs.declared.fault.DumpFault.{DumpFault}
 use Rattle.dumper_cli.specs.declared.fault.DumpFault.TheVariants.{FolderNotEmpty, File, Session}
@@ -47,16 +48,16 @@ module _ {L S : Type 0} (link : LinkGhosts L) (shelf : ShelfGhosts S) (asked : A
       columns = dumped.columns;
       rows = dumped.rows;
       site = λ t.
+          let whole = dumped.heard (telling t) in
           let said = dumped.all_said (telling t) in
           record {
             sent = (link.told b).sent;
             told = told t;
+            heard = record { wire = whole.wire; comes = subst (λ (w : Wire). Comes asked w (is_over dumped.columns dumped.rows) whole.wire) (same_start (begins t)) whole.comes };
             said_all = record {
-              messages = said.messages;
               are_all = said.are_all (ap (λ (t : Told). t.sent) (begins t));
               quits = elim said.quits [ inl e ↦ inl e | inr e ↦ inr (e.0, rising e.1) ];
             };
-            heard = subst (IsWhole asked dumped.columns dumped.rows) (same_start (begins t)) (dumped.heard (telling t));
           };
       files = dumped.made;
     }

@@ -20,18 +20,18 @@ use Rattle.dumper_cli.specs.declared.dump.TheConstants.{HOST, PORT}
 abbrev pub next_wire : SiteTold → Wire
 next_wire site = record { sent = []; stream = joined (next_of site.conversations); place = 0; id = 0 }
 
--- the messages of a dump, and COM_QUIT, which may be missing only where a count rose
-pub record IsSaid (asked : Asked) (columns : List Column) (rose : Type 0) (sent : List (List ℕ)) : Type 0 where
-  pub messages : List (List ℕ)
+-- these messages of a dump, and COM_QUIT, which may be missing only where a count rose
+pub record IsSaid (asked : Asked) (columns : List Column) (rose : Type 0) (messages sent : List (List ℕ)) : Type 0 where
   pub are_all : AreAll asked columns messages
   pub quits : (sent ≡ messages ++ QUIT.now ∷ []) ⊎ ((sent ≡ messages) × rose)
 
--- one link came back, on which these columns and rows were asked for and came
+-- one link came back, on which these columns and rows were asked for and came: the messages sent are those of the dump that
+-- came to its end by what was heard
 pub record SiteDumped (asked : Asked) (columns : List Column) (rows : List (List Cell)) (rose : Type 0) (old new : SiteTold) : Type 0 where
   pub sent : List (List ℕ)
   pub told : new ≡ returned (connected old) sent
-  pub said_all : IsSaid asked columns rose sent
   pub heard : IsWhole asked columns rows (next_wire old)
+  pub said_all : IsSaid asked columns rose heard.wire.sent sent
 
 -- the table was dumped: the messages, the replies and the files are those of one list of columns and one list of rows
 pub record Dumped (asked : Asked) (site_tells rose : Type 0) (old new : SiteTold) (folder_tells : Type 0) (contents new_contents : List FolderFile) : Type 0 where

@@ -30,9 +30,8 @@ module _ {L S : Type 0} (link : LinkGhosts L) (shelf : ShelfGhosts S) where
     pub reached : (start : Start) → Reached link asked sends_names start old → Reached link asked (is_over columns rows) start new
     pub made : shelf.tells before → (shelf.told behind).made ≡ table_files asked.schema asked.table columns rows
 
-  -- the messages that were sent, to the last or to the last but COM_QUIT, which may be missing only where the count rose
-  pub record AllSaid (asked : Asked) (columns : List Column) (old new : L) : Type 0 where
-    pub messages : List (List ℕ)
+  -- these messages were sent, to the last or to the last but COM_QUIT, which may be missing only where the count rose
+  pub record AllSaid (asked : Asked) (columns : List Column) (messages : List (List ℕ)) (old new : L) : Type 0 where
     pub are_all : (link.told old).sent ≡ [] → AreAll asked columns messages
     pub quits : ((link.told new).sent ≡ messages ++ QUIT.now ∷ []) ⊎ (((link.told new).sent ≡ messages) × Rose (link.faults old) (link.faults new))
 
@@ -40,8 +39,8 @@ module _ {L S : Type 0} (link : LinkGhosts L) (shelf : ShelfGhosts S) where
   pub record LinkDumped (asked : Asked) (old : L) (before : S) (new : L) (behind : S) : Type 0 where
     pub columns : List Column
     pub rows : List (List Cell)
-    pub all_said : link.tells new → AllSaid asked columns old new
     pub heard : link.tells new → IsWhole asked columns rows (fresh link old)
+    pub all_said : (t : link.tells new) → AllSaid asked columns (heard t).wire.sent old new
     pub made : shelf.tells before → (shelf.told behind).made ≡ table_files asked.schema asked.table columns rows
 
   -- why a dump stopped, seen from the link and the shelf
