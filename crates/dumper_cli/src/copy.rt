@@ -105,8 +105,7 @@ pub fn copy_rows<L: Link, S: Shelf>(
     ensures ok { OnOk result (Copied L.Link S.Shelf columns.now session.old file.old session.new file.new) }
     ensures err { IfErr result (λ fault. (asked start : _) → Reached L.Link asked (awaits_rows session.old.pending.reading columns.now []) start session.old → Broke L.Link S.Shelf asked start file.old.shelf session.new.link file.new.shelf fault) }
 {
-    let mut left = u64::MAX;
-    'rows: while 0 < left {
+    'rows: loop {
         let goes_on = match copy_row(session, columns, file) {
             Ok(goes_on) => goes_on,
             Err(fault) => return Err(fault),
@@ -114,7 +113,5 @@ pub fn copy_rows<L: Link, S: Shelf>(
         if !goes_on {
             return Ok(());
         }
-        left -= 1;
     }
-    Err(DumpFault::Session(SessionFault::StreamTooLong))
 }
