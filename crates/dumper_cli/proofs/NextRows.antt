@@ -1,6 +1,5 @@
 -- What the next row of a reply does to a dump.
-use Rattle.std.proofs.Common.{◌≡◌, ◌<◌, ◌≤◌, ℕ, false, List, [], ◌∷◌, ◌++◌, length, Option, Some, None, Result, Ok, Err, refl, sym, ◌∙◌, ap, subst, arith}
-use Rattle.link_traits.specs.Cause.{Rose}
+use Rattle.std.proofs.Common.{◌≡◌, ◌<◌, ℕ, List, [], ◌∷◌, ◌++◌, length, Option, Some, None, Result, Ok, Err, sym, ◌∙◌, ap, subst, arith}
 use Rattle.link_traits.specs.declared.link.Link.{Ghosts as LinkGhosts}
 use Rattle.link_traits.specs.declared.folder.Shelf.{Ghosts as ShelfGhosts}
 use Rattle.my_session.specs.Awaited.{further}
@@ -11,12 +10,11 @@ use Rattle.result_rows.specs.RowCells.{row_cells}
 use Rattle.result_rows.specs.declared.row.Row.{Row}
 use Rattle.sql_literals.specs.Literal.{Cell}
 use Rattle.sql_statements.specs.declared.form.Form.TheVariants.{Select}
-use Rattle.dumper_cli.specs.Next.{IsReady, HasRows, Keeps, ColumnAdded, ColumnsEnd, RowAdded, RowsEnd, Stands, Broke}
+use Rattle.dumper_cli.specs.Next.{IsReady, HasRows, Keeps, ColumnAdded, ColumnsEnd, RowAdded, RowsEnd, Broke}
 use Rattle.dumper_cli.specs.Run.{Start, Reached, Halted}
 use Rattle.dumper_cli.specs.Stage.{Stage, awaits_columns, awaits_rows, awaiting, doing}
 use Rattle.dumper_cli.specs.Taking.{AddsColumn, Untold, AddsRow, Unspelled, Unwritten}
 use Rattle.dumper_cli.specs.Words.{Asked}
-use Rattle.dumper_cli.specs.Writing.{IsWriting}
 use Rattle.dumper_cli.specs.declared.column.Column.{Column}
 use Rattle.dumper_cli.specs.declared.data_file.DataFile.{DataFile}
 use Rattle.dumper_cli.specs.declared.fault.DumpFault.{DumpFault}

@@ -1,27 +1,25 @@
 -- How a dump gets on, and where it stops, over a session.
-use Rattle.std.proofs.Common.{◌≡◌, ◌<◌, ◌≤◌, ◌+◌, ◌-◌, ◌^◌, ◌↔◌, ◌⊎◌, ℕ, Bool, true, false, List, [], ◌∷◌, ◌++◌, length, Option, Some, None, Result, Ok, Err, OnOk, refl, sym, ◌∙◌, ap, subst, inl, inr, arith}
-use Rattle.std.specs.Prelude.{IfErr, IfOk}
+use Rattle.std.proofs.Common.{◌≡◌, ◌<◌, ◌≤◌, ◌+◌, ◌-◌, ◌↔◌, ℕ, Bool, true, false, List, [], ◌∷◌, ◌++◌, length, Option, Some, None, Result, Ok, Err, OnOk, refl, sym, ◌∙◌, ap, subst, arith}
+use Rattle.std.specs.Prelude.{IfErr}
 use Rattle.link_traits.specs.Cause.{Rose}
 use Rattle.link_traits.specs.declared.link.Link.{Ghosts}
 use Rattle.my_session.specs.Awaited.{further, further_fault}
 use Rattle.my_session.specs.Halt.{Halts}
-use Rattle.my_session.specs.Session.{SessionView, Pending, wire_of, IsCounted, Runs, Asks, PendingBehind, HearsRow, HearsEnd, rows_of, failed_by}
-use Rattle.my_session.specs.Wire.{Wire, Hears}
+use Rattle.my_session.specs.Session.{SessionView, wire_of, IsCounted, Runs, Asks, HearsRow, HearsEnd, rows_of}
+use Rattle.my_session.specs.Wire.{Hears}
 use Rattle.my_session.specs.declared.fault.SessionFault.{SessionFault}
 use Rattle.my_session.specs.declared.fault.SessionFault.TheVariants.{Link, Refused, Garbled, NotProtocol10, PluginUnsupported, TooLong, StreamTooLong, OutOfMemory}
-use Rattle.result_rows.specs.Reading.{Reading, Further, definition, row, end, idle, after, further_of}
+use Rattle.result_rows.specs.Reading.{Reading, Further, definition, row, end, after, further_of}
 use Rattle.result_rows.specs.RowCells.{row_cells}
 use Rattle.result_rows.specs.declared.row.Row.{Row}
 use Rattle.sql_literals.specs.Literal.{Cell}
-use Rattle.sql_statements.specs.Form.{query_form}
 use Rattle.sql_statements.specs.declared.command.Command.TheVariants.{NamesBinary}
 use Rattle.sql_statements.specs.declared.form.Form.{Form}
 use Rattle.sql_statements.specs.declared.form.Form.TheVariants.{Select}
-use Rattle.sql_statements.specs.declared.query.Query.{Query}
 use Rattle.sql_statements.specs.declared.query.Query.TheVariants.{Columns as ColumnsQuery, Rows}
 use Rattle.dumper_cli.specs.Columns.{column_of, is_row_of}
-use Rattle.dumper_cli.specs.Course.{Comes, heard, IsUnfit, EndsAt, at_unfit, EndsWith, awaiting_it}
-use Rattle.dumper_cli.specs.Next.{IsReady, HasRows, Keeps}
+use Rattle.dumper_cli.specs.Course.{Comes, heard, at_unfit, awaiting_it}
+use Rattle.dumper_cli.specs.Next.{Keeps}
 use Rattle.dumper_cli.specs.Run.{Start, SaidFront, Reached, StoppedBy, Halted}
 use Rattle.dumper_cli.specs.Stage.{Stage, sends_names, awaits_names, asks_columns, awaits_column_count, awaits_columns, asks_rows, awaits_row_count, awaits_rows, is_over, awaiting, doing, behind, with_column, with_columns, stage_if, behind_columns, behind_rows, column_names}
 use Rattle.dumper_cli.specs.Words.{Asked}

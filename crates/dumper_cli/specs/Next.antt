@@ -5,7 +5,6 @@ use Rattle.link_traits.specs.declared.link.Link.{Ghosts as LinkGhosts}
 use Rattle.link_traits.specs.declared.folder.Shelf.{Ghosts as ShelfGhosts}
 use Rattle.my_session.specs.Session.{SessionView}
 use Rattle.my_session.specs.Wire.{IsOnward}
-use Rattle.my_session.specs.declared.fault.SessionFault.{SessionFault}
 use Rattle.result_rows.specs.Reading.{idle}
 use Rattle.sql_literals.specs.Literal.{Cell}
 use Rattle.sql_statements.specs.declared.form.Form.TheVariants.{Select}

@@ -1,5 +1,5 @@
 // The columns of the table, read from the rows that tell them.
-ghost use Rattle.std.specs.Prelude.{◌≡◌, ◌<◌, ◌∷◌, [], length, IfErr, IfOk, OnOk};
+ghost use Rattle.std.specs.Prelude.{◌<◌, [], length, IfErr, IfOk, OnOk};
 ghost use Rattle.result_rows.specs.RowCells.{row_cells};
 ghost use Rattle.dumper_cli.specs.AskedBy.{asked_by};
 ghost use Rattle.dumper_cli.specs.Next.{IsReady, HasRows, Keeps, NextColumn};

@@ -1,5 +1,5 @@
 // The rows of the table, asked for and written to the file one by one.
-ghost use Rattle.std.specs.Prelude.{◌≡◌, ◌<◌, ◌∷◌, [], IfErr, IfOk, OnOk, length};
+ghost use Rattle.std.specs.Prelude.{◌<◌, [], IfErr, IfOk, OnOk, length};
 ghost use Rattle.result_rows.specs.RowCells.{row_cells};
 ghost use Rattle.dumper_cli.specs.AskedBy.{asked_by};
 ghost use Rattle.dumper_cli.specs.Next.{IsReady, HasRows, Keeps, CopiesRow, Broke, Copied};
