@@ -1,6 +1,7 @@
 pub mod Calls
 pub mod Endings
 pub mod Listing
+pub mod NextRows
 pub mod Outcomes
 pub mod Over
 pub mod OverSite

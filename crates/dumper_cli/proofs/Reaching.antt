@@ -1,27 +1,25 @@
 -- How a dump gets on, and where it stops, over a session.
-use Rattle.std.proofs.Common.{◌≡◌, ◌<◌, ◌≤◌, ◌+◌, ◌-◌, ◌^◌, ◌↔◌, ◌⊎◌, ℕ, Bool, true, false, List, [], ◌∷◌, ◌++◌, length, Option, Some, None, Result, Ok, Err, OnOk, refl, sym, ◌∙◌, ap, subst, inl, inr, arith}
-use Rattle.std.specs.Prelude.{IfErr, IfOk}
+use Rattle.std.proofs.Common.{◌≡◌, ◌<◌, ◌≤◌, ◌+◌, ◌-◌, ◌↔◌, ℕ, Bool, true, false, List, [], ◌∷◌, ◌++◌, length, Option, Some, None, Result, Ok, Err, OnOk, refl, sym, ◌∙◌, ap, subst, arith}
+use Rattle.std.specs.Prelude.{IfErr}
 use Rattle.link_traits.specs.Cause.{Rose}
 use Rattle.link_traits.specs.declared.link.Link.{Ghosts}
 use Rattle.my_session.specs.Awaited.{further, further_fault}
 use Rattle.my_session.specs.Halt.{Halts}
-use Rattle.my_session.specs.Session.{SessionView, Pending, wire_of, IsCounted, Runs, Asks, PendingBehind, HearsRow, HearsEnd, rows_of, failed_by}
-use Rattle.my_session.specs.Wire.{Wire, Hears}
+use Rattle.my_session.specs.Session.{SessionView, wire_of, IsCounted, Runs, Asks, HearsRow, HearsEnd, rows_of}
+use Rattle.my_session.specs.Wire.{Hears}
 use Rattle.my_session.specs.declared.fault.SessionFault.{SessionFault}
 use Rattle.my_session.specs.declared.fault.SessionFault.TheVariants.{Link, Refused, Garbled, NotProtocol10, PluginUnsupported, TooLong, StreamTooLong, OutOfMemory}
-use Rattle.result_rows.specs.Reading.{Reading, Further, definition, row, end, idle, after, further_of}
+use Rattle.result_rows.specs.Reading.{Reading, Further, definition, row, end, after, further_of}
 use Rattle.result_rows.specs.RowCells.{row_cells}
 use Rattle.result_rows.specs.declared.row.Row.{Row}
 use Rattle.sql_literals.specs.Literal.{Cell}
-use Rattle.sql_statements.specs.Form.{query_form}
 use Rattle.sql_statements.specs.declared.command.Command.TheVariants.{NamesBinary}
 use Rattle.sql_statements.specs.declared.form.Form.{Form}
 use Rattle.sql_statements.specs.declared.form.Form.TheVariants.{Select}
-use Rattle.sql_statements.specs.declared.query.Query.{Query}
 use Rattle.sql_statements.specs.declared.query.Query.TheVariants.{Columns as ColumnsQuery, Rows}
 use Rattle.dumper_cli.specs.Columns.{column_of, is_row_of}
-use Rattle.dumper_cli.specs.Course.{Comes, heard, IsUnfit, EndsAt, at_unfit, EndsWith, awaiting_it}
-use Rattle.dumper_cli.specs.Next.{IsReady, HasRows, IsOnward, Keeps}
+use Rattle.dumper_cli.specs.Course.{Comes, heard, at_unfit, awaiting_it}
+use Rattle.dumper_cli.specs.Next.{Keeps}
 use Rattle.dumper_cli.specs.Run.{Start, SaidFront, Reached, StoppedBy, Halted}
 use Rattle.dumper_cli.specs.Stage.{Stage, sends_names, awaits_names, asks_columns, awaits_column_count, awaits_columns, asks_rows, awaits_row_count, awaits_rows, is_over, awaiting, doing, behind, with_column, with_columns, stage_if, behind_columns, behind_rows, column_names}
 use Rattle.dumper_cli.specs.Words.{Asked}
@@ -32,6 +30,9 @@ pub Rose-later : (a b c : ℕ) → a ≤ b → Rose b c → Rose a c
 Rose-later a b c le rose = omega arith
 
 module _ {L : Type 0} (of : Ghosts L) where
+  pub Keeps-same : (a : SessionView L) → Keeps of a a
+  Keeps-same a = record { tells = (λ t. t, λ t. t); later = omega arith }
+
   pub Keeps-then : (a b c : SessionView L) → Keeps of a b → Keeps of b c → Keeps of a c
   Keeps-then a b c one two = record {
     tells = (λ t. two.tells.0 (one.tells.0 t), λ t. one.tells.1 (two.tells.1 t));
@@ -110,28 +111,6 @@ module _ {L : Type 0} (of : Ghosts L) (asked : Asked) (old new : SessionView L) 
         query_ends asked start.wire (Rows (column_names list) asked.schema asked.table) (asks_rows list) (awaits_row_count list) (λ reading. awaits_rows reading list []) refl refl (λ message. refl) (λ reading. refl) (row_turns list) (λ steps is. is) (λ steps awaited lead. lead) (λ steps payload lead. lead) (wire_of of old) (wire_of of new) comes fault (asks t))
 
 -- ---- the rows
-
--- a message has bytes
-pub onward_by : {L : Type 0} (of : Ghosts L) (old new : SessionView L) (message : List ℕ) → Hears message (wire_of of old) (wire_of of new) → IsOnward old new
-onward_by of old new message hears = record { more = (let place = hears.place in omega arith); within = hears.within }
-
--- so many calls are left of 2^64 - 1, each of which heard a message
-abbrev pub Spent : ℕ → ℕ → Type 0
-Spent left place = (left ≡ 2 ^ 64 - 1) ⊎ ((place ≤ 2 ^ 62) × (2 ^ 64 - 1 ≤ left + place))
-
-pub spent_more : {L : Type 0} (left : ℕ) (old new : SessionView L) → 0 < left → Spent left old.place → IsOnward old new → Spent (left - 1) new.place
-spent_more left old new some (inl all) onward = let more = onward.more in let within = onward.within in inr (within, omega arith)
-spent_more left old new some (inr few) onward = let more = onward.more in let within = onward.within in let enough = few.1 in inr (within, omega arith)
-
--- none are left on no session
-pub spent_all : (left place : ℕ) → left ≡ 0 → Spent left place → ⊥
-spent_all left place none (inl all) = omega arith
-spent_all left place none (inr few) = let within = few.0 in let enough = few.1 in omega arith
-
-module _ {L : Type 0} (of : Ghosts L) (asked : Asked) where
-  -- 2^64 - 1 messages don't come
-  pub exhausted : (stage : Stage) (start : Start) (now : SessionView L) → (of.tells now.link → ⊥) → Reached of asked stage start now → Halted of asked start now.link StreamTooLong
-  exhausted stage start now never at = record { later = at.later; front = λ t. record { stage = stage; wire = wire_of of now; comes = at.comes t; sent_is = refl }; why = λ t. absurd (never t) }
 
 module _ {L : Type 0} (of : Ghosts L) (asked : Asked) (start : Start) (old new : SessionView L) (keeps : Keeps of old new) where
   -- a message came that a session goes on at and a dump doesn't

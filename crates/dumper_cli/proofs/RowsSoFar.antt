@@ -1,14 +1,12 @@
 -- The rows that were read and written so far.
-use Rattle.std.proofs.Common.{◌≡◌, ◌↔◌, ◌≤◌, ◌<◌, ◌+◌, ◌^◌, ◌-◌, ℕ, List, [], ◌∷◌, ◌++◌, refl, sym, ◌∙◌, ap, subst, arith}
-use Rattle.link_traits.specs.Cause.{Rose}
+use Rattle.std.proofs.Common.{◌≤◌, ℕ, List, [], ◌∷◌, ◌++◌, refl, ◌∙◌, arith}
 use Rattle.link_traits.specs.declared.link.Link.{Ghosts as LinkGhosts}
 use Rattle.link_traits.specs.declared.folder.Shelf.{Ghosts as ShelfGhosts}
-use Rattle.my_session.specs.Session.{SessionView, Pending}
-use Rattle.result_rows.specs.Reading.{Reading}
+use Rattle.my_session.specs.Session.{SessionView}
 use Rattle.sql_literals.specs.Literal.{Cell}
-use Rattle.dumper_cli.specs.Next.{HasRows, RowAdded, RowsEnd, Copied, Stands, Broke}
+use Rattle.dumper_cli.specs.Next.{RowAdded, RowsEnd, Copied, Broke}
 use Rattle.dumper_cli.specs.Run.{Start, Reached}
-use Rattle.dumper_cli.specs.Stage.{awaits_rows, is_over}
+use Rattle.dumper_cli.specs.Stage.{awaits_rows}
 use Rattle.dumper_cli.specs.Words.{Asked}
 use Rattle.dumper_cli.specs.Writing.{IsWriting, KeepsFile}
 use Rattle.dumper_cli.specs.declared.column.Column.{Column}
@@ -18,36 +16,29 @@ use Rattle.dumper_cli.specs.declared.fault.DumpFault.TheVariants.{FolderNotEmpty
 use Rattle.dumper_cli.proofs.Reaching.{Rose-later}
 
 module _ {L S : Type 0} (link : LinkGhosts L) (shelf : ShelfGhosts S) where
+  -- since then these rows came, and were written to the file
   pub record SoFar (columns : List Column) (old : SessionView L) (file : DataFile S shelf) (now : SessionView L) (now_file : DataFile S shelf) : Type 0 where
     pub rows : List (List Cell)
-    pub reached : (asked : Asked) (start : Start) → Reached link asked (awaits_rows old.pending.reading columns []) start old → Reached link asked (awaits_rows old.pending.reading columns rows) start now
+    pub reached : (asked : Asked) (start : Start) → Reached link asked (awaits_rows old.pending.reading columns []) start old → Reached link asked (awaits_rows now.pending.reading columns rows) start now
     pub writes : (schema table : List ℕ) → IsWriting shelf schema table columns [] file → IsWriting shelf schema table columns rows now_file
 
   pub SoFar-begun : (columns : List Column) (old : SessionView L) (file : DataFile S shelf) → SoFar columns old file old file
   SoFar-begun columns old file = record { rows = []; reached = λ asked start at. at; writes = λ schema table writing. writing }
 
-  -- the same rows are awaited
-  same_awaited : (asked : Asked) (columns : List Column) (rows : List (List Cell)) (start : Start) (pending mid : Pending) (now : SessionView L) → mid ≡ pending → Reached link asked (awaits_rows pending.reading columns rows) start now → Reached link asked (awaits_rows mid.reading columns rows) start now
-  same_awaited asked columns rows start pending mid now same at = subst (λ (p : Pending). Reached link asked (awaits_rows p.reading columns rows) start now) (sym same) at
-
-  module _ (columns : List Column) (old : SessionView L) (file : DataFile S shelf) (mid : SessionView L) (mid_file : DataFile S shelf) (now : SessionView L) (now_file : DataFile S shelf) (pending : mid.pending ≡ old.pending) (so_far : SoFar columns old file mid mid_file) where
+  module _ (columns : List Column) (old : SessionView L) (file : DataFile S shelf) (mid : SessionView L) (mid_file : DataFile S shelf) (now : SessionView L) (now_file : DataFile S shelf) (so_far : SoFar columns old file mid mid_file) where
     pub SoFar-more : RowAdded link shelf columns mid mid_file now now_file → SoFar columns old file now now_file
     SoFar-more more = record {
-      rows = so_far.rows ++ more.added;
-      reached = λ asked start at. same_awaited asked columns (so_far.rows ++ more.added) start mid.pending old.pending now (sym pending) (more.reached asked so_far.rows start (same_awaited asked columns so_far.rows start old.pending mid.pending mid pending (so_far.reached asked start at)));
+      rows = so_far.rows ++ more.cells ∷ [];
+      reached = λ asked start at. more.reached asked so_far.rows start (so_far.reached asked start at);
       writes = λ schema table writing. more.writes schema table so_far.rows (so_far.writes schema table writing);
     }
 
     pub Copied-ended : RowsEnd link shelf columns mid mid_file now now_file → Copied link shelf columns old file now now_file
     Copied-ended last = record {
       rows = so_far.rows;
-      reached = λ asked start at. last.reached asked so_far.rows start (same_awaited asked columns so_far.rows start old.pending mid.pending mid pending (so_far.reached asked start at));
+      reached = λ asked start at. last.reached asked so_far.rows start (so_far.reached asked start at);
       writes = λ schema table writing. last.writes schema table so_far.rows (so_far.writes schema table writing);
     }
-
-    -- where the rows stand
-    pub so_far_at : (asked : Asked) (start : Start) → Reached link asked (awaits_rows old.pending.reading columns []) start old → Reached link asked (awaits_rows mid.pending.reading columns so_far.rows) start mid
-    so_far_at asked start at = same_awaited asked columns so_far.rows start old.pending mid.pending mid pending (so_far.reached asked start at)
 
   pub KeepsFile-same : (a : DataFile S shelf) → KeepsFile shelf a a
   KeepsFile-same a = record { name = refl; head = refl; tells = (λ t. t, λ t. t); later = omega arith }

@@ -1,10 +1,10 @@
 -- The calls of a session in a dump.
-use Rattle.std.specs.Prelude.{◌≡◌, ◌<◌, ◌≤◌, ◌↔◌, ◌^◌, Bool, true, false, ℕ, List, [], ◌++◌, length}
+use Rattle.std.specs.Prelude.{◌≡◌, ◌<◌, ◌≤◌, ◌↔◌, Bool, true, false, ℕ, List, [], ◌∷◌, ◌++◌, length}
 use Rattle.link_traits.specs.Cause.{Rose}
 use Rattle.link_traits.specs.declared.link.Link.{Ghosts as LinkGhosts}
 use Rattle.link_traits.specs.declared.folder.Shelf.{Ghosts as ShelfGhosts}
 use Rattle.my_session.specs.Session.{SessionView}
-use Rattle.my_session.specs.declared.fault.SessionFault.{SessionFault}
+use Rattle.my_session.specs.Wire.{IsOnward}
 use Rattle.result_rows.specs.Reading.{idle}
 use Rattle.sql_literals.specs.Literal.{Cell}
 use Rattle.sql_statements.specs.declared.form.Form.TheVariants.{Select}
@@ -29,21 +29,28 @@ pub record HasRows {L : Type 0} (session : SessionView L) : Type 0 where
   pub rows : session.pending.reading.awaited ≡ 0
   pub form : session.pending.form ≡ Select
 
--- more bytes were heard, and no more than a session hears
-pub record IsOnward {L : Type 0} (old new : SessionView L) : Type 0 where
-  pub more : old.place < new.place
-  pub within : new.place ≤ 2 ^ 62
-
 module _ {L : Type 0} (of : LinkGhosts L) where
   -- what every call of a session keeps
   pub record Keeps (old new : SessionView L) : Type 0 where
     pub tells : of.tells old.link ↔ of.tells new.link
     pub later : of.faults old.link ≤ of.faults new.link
 
+  -- a row came, and with its column there are more
+  pub record ColumnAdded (columns : List Column) (old : SessionView L) (more : List Column) (new : SessionView L) : Type 0 where
+    pub has_rows : HasRows new
+    pub onward : IsOnward old.place new.place
+    pub reached : (asked : Asked) (start : Start) → Reached of asked (awaits_columns old.pending.reading columns) start old → Reached of asked (awaits_columns new.pending.reading more) start new
+
+  -- all columns came, and there are some
+  pub record ColumnsEnd (columns : List Column) (old : SessionView L) (all : List Column) (new : SessionView L) : Type 0 where
+    pub ready : IsReady new
+    pub some : 0 < length all
+    pub reached : (asked : Asked) (start : Start) → Reached of asked (awaits_columns old.pending.reading columns) start old → Reached of asked (asks_rows all) start new
+
   -- behind a row about a column, or behind the last
   abbrev pub NextColumn : Bool → List Column → SessionView L → List Column → SessionView L → Type 0
-  NextColumn true columns old more new = HasRows new × (new.pending ≡ old.pending) × (of.tells old.link → IsOnward old new) × ((asked : Asked) (start : Start) → Reached of asked (awaits_columns old.pending.reading columns) start old → Reached of asked (awaits_columns old.pending.reading more) start new)
-  NextColumn false columns old more new = IsReady new × (0 < length more) × ((asked : Asked) (start : Start) → Reached of asked (awaits_columns old.pending.reading columns) start old → Reached of asked (asks_rows more) start new)
+  NextColumn true columns old more new = ColumnAdded columns old more new
+  NextColumn false columns old all new = ColumnsEnd columns old all new
 
 -- the run stands still, as at a fault of the file: the messages of a front of it were sent
 pub record Stands {L : Type 0} (of : LinkGhosts L) (asked : Asked) (start : Start) (now : L) : Type 0 where
@@ -54,11 +61,10 @@ module _ {L S : Type 0} (link : LinkGhosts L) (shelf : ShelfGhosts S) where
   -- a row came, and was added to the file
   pub record RowAdded (columns : List Column) (old : SessionView L) (file : DataFile S shelf) (new : SessionView L) (new_file : DataFile S shelf) : Type 0 where
     pub has_rows : HasRows new
-    pub pending : new.pending ≡ old.pending
-    pub onward : link.tells old.link → IsOnward old new
-    pub added : List (List Cell)
-    pub reached : (asked : Asked) (rows : List (List Cell)) (start : Start) → Reached link asked (awaits_rows old.pending.reading columns rows) start old → Reached link asked (awaits_rows old.pending.reading columns (rows ++ added)) start new
-    pub writes : (schema table : List ℕ) (rows : List (List Cell)) → IsWriting shelf schema table columns rows file → IsWriting shelf schema table columns (rows ++ added) new_file
+    pub onward : IsOnward old.place new.place
+    pub cells : List Cell
+    pub reached : (asked : Asked) (rows : List (List Cell)) (start : Start) → Reached link asked (awaits_rows old.pending.reading columns rows) start old → Reached link asked (awaits_rows new.pending.reading columns (rows ++ cells ∷ [])) start new
+    pub writes : (schema table : List ℕ) (rows : List (List Cell)) → IsWriting shelf schema table columns rows file → IsWriting shelf schema table columns (rows ++ cells ∷ []) new_file
 
   -- all rows came
   pub record RowsEnd (columns : List Column) (old : SessionView L) (file : DataFile S shelf) (new : SessionView L) (new_file : DataFile S shelf) : Type 0 where

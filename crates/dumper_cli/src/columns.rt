@@ -1,5 +1,5 @@
 // The columns of the table, read from the rows that tell them.
-ghost use Rattle.std.specs.Prelude.{◌≡◌, ◌<◌, ◌∷◌, [], length, IfErr, IfOk, OnOk};
+ghost use Rattle.std.specs.Prelude.{◌<◌, [], length, IfErr, IfOk, OnOk};
 ghost use Rattle.result_rows.specs.RowCells.{row_cells};
 ghost use Rattle.dumper_cli.specs.AskedBy.{asked_by};
 ghost use Rattle.dumper_cli.specs.Next.{IsReady, HasRows, Keeps, NextColumn};
@@ -33,11 +33,7 @@ fn ask_columns<L: Link>(session: &mut Session<L>, words: &Words<'_>) -> Result<(
 }
 
 // Adds the column that a row tells.
-fn add_column(
-    alloc: Global,
-    row: &Row<'_>,
-    columns: &mut ColumnList,
-) -> Result<(), SessionFault>
+fn add_column(alloc: Global, row: &Row<'_>, columns: &mut ColumnList) -> Result<(), SessionFault>
     ensures ok { OnOk result (AddsColumn (row_cells row.now) columns.old columns.new) }
     ensures err { IfErr result (Untold (row_cells row.now) row.now.place) }
 {
@@ -98,8 +94,7 @@ pub fn read_columns<L: Link>(
         return Err(fault);
     }
     let mut columns = ColumnList::new(alloc);
-    let mut left = u64::MAX;
-    'columns: while 0 < left {
+    'columns: loop {
         let goes_on = match next_column(session, alloc, &mut columns) {
             Ok(goes_on) => goes_on,
             Err(fault) => return Err(fault),
@@ -107,7 +102,5 @@ pub fn read_columns<L: Link>(
         if !goes_on {
             return Ok(columns);
         }
-        left -= 1;
     }
-    Err(SessionFault::StreamTooLong)
 }

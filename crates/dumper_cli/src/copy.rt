@@ -1,5 +1,5 @@
 // The rows of the table, asked for and written to the file one by one.
-ghost use Rattle.std.specs.Prelude.{◌≡◌, ◌<◌, ◌∷◌, [], IfErr, IfOk, OnOk, length};
+ghost use Rattle.std.specs.Prelude.{◌<◌, [], IfErr, IfOk, OnOk, length};
 ghost use Rattle.result_rows.specs.RowCells.{row_cells};
 ghost use Rattle.dumper_cli.specs.AskedBy.{asked_by};
 ghost use Rattle.dumper_cli.specs.Next.{IsReady, HasRows, Keeps, CopiesRow, Broke, Copied};
@@ -105,8 +105,7 @@ pub fn copy_rows<L: Link, S: Shelf>(
     ensures ok { OnOk result (Copied L.Link S.Shelf columns.now session.old file.old session.new file.new) }
     ensures err { IfErr result (λ fault. (asked start : _) → Reached L.Link asked (awaits_rows session.old.pending.reading columns.now []) start session.old → Broke L.Link S.Shelf asked start file.old.shelf session.new.link file.new.shelf fault) }
 {
-    let mut left = u64::MAX;
-    'rows: while 0 < left {
+    'rows: loop {
         let goes_on = match copy_row(session, columns, file) {
             Ok(goes_on) => goes_on,
             Err(fault) => return Err(fault),
@@ -114,7 +113,5 @@ pub fn copy_rows<L: Link, S: Shelf>(
         if !goes_on {
             return Ok(());
         }
-        left -= 1;
     }
-    Err(DumpFault::Session(SessionFault::StreamTooLong))
 }

@@ -1,6 +1,5 @@
 -- What a reply's first message says.
-use Rattle.std.proofs.Common.{◌≡◌, ℕ, List, take, refl, sym, ◌∙◌, ap, inl, inr, Option, Some, None, Result, Ok, Err}
-use Rattle.std.specs.Prelude.{IfErr}
+use Rattle.std.proofs.Common.{◌≡◌, ℕ, List, take, refl, sym, ◌∙◌, ap, inl, inr, Option, Some}
 use Rattle.my_packets.specs.Packet.{packets}
 use Rattle.my_packets.specs.Skimmed.{Skimmed as SkimmedView}
 use Rattle.my_packets.specs.Skims.{Skims}

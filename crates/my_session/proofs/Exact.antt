@@ -1,10 +1,10 @@
 -- A part of a message that gets no more bytes than it wants holds nothing behind the message.
-use Rattle.std.proofs.Common.{◌≡◌, ◌≤◌, ◌<◌, ◌+◌, ◌-◌, ℕ, zero, suc, List, [], ◌∷◌, ◌++◌, length, take, refl, sym, ◌∙◌, ap, subst, arith, append_assoc, length-append}
+use Rattle.std.proofs.Common.{◌≡◌, ◌≤◌, ◌<◌, ◌+◌, ◌-◌, ℕ, List, [], ◌∷◌, ◌++◌, length, take, refl, sym, ◌∙◌, ap, subst, arith, append_assoc, length-append}
 use Rattle.std.proofs.Math.Seq.{take-append-add}
 use Rattle.std.proofs.lemmas.Bool.Decides.{nat_tests}
 use Rattle.std.proofs.lemmas.List.{append-nil, length-take-le, nil_from_length}
 use Rattle.my_packets.proofs.Fronts.{one_front}
-use Rattle.my_packets.specs.Front.{HasFull, HasMessage, IsPart}
+use Rattle.my_packets.specs.Front.{HasMessage, IsPart}
 use Rattle.my_packets.specs.Packet.{packets, full_packets, id_behind, missing}
 use Rattle.my_session.specs.Receiving.{IsExact}
 

@@ -9,15 +9,15 @@ use Rattle.my_login.specs.declared.switch.Switch.{Switch}
 use Rattle.result_rows.specs.declared.reader.Reply.TheVariants.{Done}
 use Rattle.sql_statements.specs.declared.command.Command.TheVariants.{SetUp}
 use Rattle.sql_statements.specs.declared.form.Form.TheVariants.{Connect}
-use Rattle.my_session.proofs.Running.{leads_on, leads_said, leads_answered, leads_heard}
-use Rattle.my_session.specs.Awaited.{Awaited, greeting, decision, done}
+use Rattle.my_session.proofs.Running.{leads_on, leads_answered, leads_heard}
+use Rattle.my_session.specs.Awaited.{greeting, decision, done}
 use Rattle.my_session.specs.Channel.{ChannelView, channel_wire}
 use Rattle.my_session.specs.Halt.{Halts, Unsaid, Stops, at_message, at_payload}
 use Rattle.my_session.specs.Heard.{HearsReply, HearsGreeting, HearsDecision, IsAskedToSwitch}
 use Rattle.my_session.specs.Login.{password_answer, switch_answer, IsGreeted, IsSwitched, IsAccepted, IsLoggedIn, LoginAwaits, a_greeting, a_decision, an_acceptance, a_set_up, LoginSends, the_response, the_switch_answer, the_set_up}
 use Rattle.my_session.specs.Session.{Runs, IsCounted, LoginStopped, fresh}
-use Rattle.my_session.specs.Statements.{IsRun, RunAwaits, an_ok, RunSends, command_payload}
-use Rattle.my_session.specs.Wire.{Wire, Step, commands, answers, hears, Leads, ends, Takes, Sent}
+use Rattle.my_session.specs.Statements.{IsRun, RunAwaits, an_ok, RunSends}
+use Rattle.my_session.specs.Wire.{Wire, Step, answers, hears, Leads, ends, Takes, Sent}
 use Rattle.my_session.specs.declared.fault.SessionFault.{SessionFault}
 use Rattle.my_session.specs.declared.login.Decision.TheVariants.{Accepted, Switched}
 

@@ -1,12 +1,10 @@
 -- What comes next on a wire is one thing.
-use Rattle.std.proofs.Common.{◌≡◌, ℕ, List, refl, sym, ◌∙◌, ap, ◌-◌, ◌^◌, ◌++◌, length, take}
+use Rattle.std.proofs.Common.{◌≡◌, ℕ, List, sym, ◌∙◌, ap, ◌-◌, ◌^◌, length, take}
 use Rattle.my_packets.proofs.Fronts.{one_front, same_packets}
-use Rattle.my_packets.specs.Front.{IsTooLong}
 use Rattle.my_packets.specs.Packet.{packets}
 use Rattle.my_session.proofs.Within.{heard_within}
-use Rattle.my_session.specs.Halt.{OutOfOrder, IsFull}
 use Rattle.my_session.specs.Laws.{HasOneNext}
-use Rattle.my_session.specs.Wire.{Wire, Hears, within}
+use Rattle.my_session.specs.Wire.{Wire, within}
 
 same_wire : (a b : Wire) → a.sent ≡ b.sent → a.stream ≡ b.stream → a.place ≡ b.place → a.id ≡ b.id → a ≡ b
 same_wire a b sent stream place id =

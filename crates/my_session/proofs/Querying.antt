@@ -1,14 +1,11 @@
 -- How a query is led, sent and described.
-use Rattle.std.proofs.Common.{◌≡◌, ◌<◌, ◌≤◌, ◌+◌, ◌-◌, ◌==◌, ◌&&◌, nat_le, nat_lt, ℕ, suc, Bool, true, false, if◌then◌else◌, List, [], ◌∷◌, ◌++◌, length, map, replicate, refl, sym, ◌∙◌, ap, subst, inl, inr, ◌⊎◌, ◌≢◌, append_assoc, arith, Option, Some, None, option_map, Result, Ok, Err, OnOk, length-append}
-use Rattle.std.specs.Prelude.{IfErr, option_and_then}
+use Rattle.std.proofs.Common.{◌≡◌, ◌<◌, ◌+◌, ◌-◌, ◌==◌, ◌&&◌, nat_lt, ℕ, suc, Bool, true, false, if◌then◌else◌, List, [], ◌∷◌, ◌++◌, length, map, replicate, refl, sym, ◌∙◌, ap, subst, inl, inr, ◌⊎◌, ◌≢◌, append_assoc, arith, Option, Some, None, Result, Ok, Err, OnOk, length-append}
+use Rattle.std.specs.Prelude.{IfErr}
 use Rattle.std.proofs.lemmas.Bool.{ne_eqb}
-use Rattle.std.proofs.lemmas.Bool.Decides.{nat_tests}
-use Rattle.std.proofs.lemmas.List.{append-nil, map-append}
-use Rattle.link_traits.specs.declared.link.Link.{Ghosts}
-use Rattle.my_packets.specs.Lenenc.{lenenc_of}
-use Rattle.result_rows.specs.Definition.{is_definition, column_count}
-use Rattle.result_rows.specs.Reading.{Reading, Further, definition, row, end, refused, garbled, counted, further_of, after, definition_if, end_if, refused_if, row_if, row_of}
-use Rattle.result_rows.specs.Reply.{is_ok_packet, is_eof_packet, refusal_of, reply_of}
+use Rattle.std.proofs.lemmas.List.{map-append}
+use Rattle.result_rows.specs.Definition.{is_definition}
+use Rattle.result_rows.specs.Reading.{Reading, Further, definition, row, garbled, counted, further_of, after, definition_if, end_if, refused_if, row_if, row_of}
+use Rattle.result_rows.specs.Reply.{is_eof_packet, refusal_of}
 use Rattle.result_rows.specs.Row.{Cell, cells_of}
 use Rattle.result_rows.specs.ResultSet.{taken}
 use Rattle.result_rows.specs.declared.refusal.Refusal.{Refusal}
@@ -17,8 +14,7 @@ use Rattle.result_rows.specs.Turns.{IsTurn}
 use Rattle.result_rows.specs.declared.row.Row.{Row}
 use Rattle.result_rows.specs.declared.reader.Turn.{Turn}
 use Rattle.result_rows.specs.declared.reader.Turn.TheVariants.{Row as IsRow}
-use Rattle.result_rows.specs.declared.reader.Reply.{Reply}
-use Rattle.result_rows.specs.declared.reader.Reply.TheVariants.{Done, Refused as IsRefused, Columns}
+use Rattle.result_rows.specs.declared.reader.Reply.TheVariants.{Columns}
 use Rattle.sql_statements.specs.Form.{query_form}
 use Rattle.sql_statements.specs.Text.{query_text}
 use Rattle.sql_statements.specs.declared.command.Command.TheVariants.{Use}
@@ -27,13 +23,12 @@ use Rattle.sql_statements.specs.declared.query.Query.{Query}
 use Rattle.sql_statements.specs.declared.query.Query.TheVariants.{CreateTable, CreateView, CreateProcedure, CreateFunction, CreateTrigger}
 use Rattle.my_session.proofs.Running.{leads_on, leads_said, leads_heard}
 use Rattle.my_session.specs.Awaited.{Awaited, count, further}
-use Rattle.my_session.specs.Channel.{ChannelView, channel_wire}
 use Rattle.my_session.specs.Halt.{Halts, Unsaid, Stops, at_message, at_payload}
-use Rattle.my_session.specs.Heard.{HasColumns, HearsReply, HearsDefinition, IsRowOf}
+use Rattle.my_session.specs.Heard.{HearsReply, HearsDefinition, IsRowOf}
 use Rattle.my_session.specs.Lead.{lead_of}
 use Rattle.my_session.specs.Session.{Runs, rows_of}
 use Rattle.my_session.specs.Statements.{IsRun, RunAwaits, RunSends, IsLed, LeadAwaits, LeadSends, IsAsked, IsDescribed, QueryAwaits, a_lead, a_count, a_definition, QuerySends, the_lead, the_query, query_payload}
-use Rattle.my_session.specs.Wire.{Wire, Step, commands, hears, Leads, ends, Takes, Sent}
+use Rattle.my_session.specs.Wire.{Wire, Step, commands, hears, ends, Takes, Sent}
 use Rattle.my_session.specs.declared.fault.SessionFault.{SessionFault}
 
 -- ---- the lead

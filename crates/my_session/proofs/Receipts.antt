@@ -15,9 +15,9 @@ use Rattle.my_packets.specs.declared.frames.FrameFault.TheVariants.{BadSequence,
 use Rattle.my_session.proofs.Exact.{exact_at_first, exact_behind}
 use Rattle.my_session.proofs.Within.{wrong_within, full_within}
 use Rattle.my_session.specs.Channel.{wire_at}
-use Rattle.my_session.specs.Halt.{Misheard, IsFull}
+use Rattle.my_session.specs.Halt.{Misheard}
 use Rattle.my_session.specs.Receiving.{Fetches, Gathers, IsExact, Unfetched, Unsettled}
-use Rattle.my_session.specs.Wire.{Wire, Hears, within}
+use Rattle.my_session.specs.Wire.{Hears, IsOnward, within}
 use Rattle.my_session.specs.declared.fault.SessionFault.{SessionFault}
 use Rattle.my_session.specs.declared.fault.SessionFault.TheVariants.{Link, Refused, Garbled, NotProtocol10, PluginUnsupported, TooLong, StreamTooLong, OutOfMemory}
 
@@ -106,6 +106,9 @@ module _ {L : Type 0} (of : Ghosts L) where
         let at = gathers.place in
         let all = gathers.taken in
         omega arith
+
+    pub gathered_onward : (new : Unread) → Passes frames new → IsOnward taken_first taken
+    gathered_onward new passes = let size = whole_size new passes in let all = gathers.taken in record { more = omega arith; within = inside }
 
     pub gathered_hears : (new : Unread) → Passes frames new → of.tells start → Hears new.message (wire_at of start taken_first first.id) (wire_at of link taken new.id)
     gathered_hears new passes t =

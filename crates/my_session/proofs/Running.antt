@@ -1,11 +1,11 @@
 -- How a conversation goes on, and how a command is run.
-use Rattle.std.proofs.Common.{◌≡◌, ℕ, List, [], ◌∷◌, ◌++◌, refl, sym, ◌∙◌, ap, subst, inl, inr, append_assoc, Option, Some, Result, Ok, Err, OnOk}
+use Rattle.std.proofs.Common.{◌≡◌, ℕ, List, [], ◌∷◌, ◌++◌, refl, sym, subst, Some, Result, Ok, Err, OnOk}
 use Rattle.std.specs.Prelude.{IfErr}
 use Rattle.result_rows.specs.declared.reader.Reply.TheVariants.{Done}
 use Rattle.sql_statements.specs.Form.{command_form}
 use Rattle.sql_statements.specs.declared.command.Command.{Command}
 use Rattle.sql_statements.specs.declared.form.Form.{Form}
-use Rattle.my_session.specs.Awaited.{Awaited, done}
+use Rattle.my_session.specs.Awaited.{done}
 use Rattle.my_session.specs.Halt.{Halts, Unsaid, Stops, at_message, at_payload}
 use Rattle.my_session.specs.Heard.{HearsReply}
 use Rattle.my_session.specs.Session.{Runs}

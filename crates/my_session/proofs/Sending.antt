@@ -1,7 +1,7 @@
 -- What sending does to what is still to be heard.
-use Rattle.std.proofs.Common.{◌≡◌, ◌<◌, ◌≤◌, ◌+◌, ◌%◌, List, [], ◌∷◌, ◌++◌, ℕ, length, arith, refl, sym, ◌∙◌, ap, append_assoc}
+use Rattle.std.proofs.Common.{◌≡◌, ◌<◌, ◌≤◌, List, [], ◌∷◌, ◌++◌, ℕ, length, arith, refl, ◌∙◌, ap, append_assoc}
 use Rattle.my_packets.proofs.Packets.{short_packets}
-use Rattle.my_packets.specs.Packet.{packet, packets, packet_count, id_behind}
+use Rattle.my_packets.specs.Packet.{packet, packets}
 use Rattle.link_traits.specs.Link.{Told, stream, joined, first, others, answered}
 
 all_joined : (lists : List (List ℕ)) → first lists ++ joined (others lists) ≡ joined lists

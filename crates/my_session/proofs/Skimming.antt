@@ -1,11 +1,11 @@
 -- A message that is taken off a link piece by piece, of which the front is kept.
-use Rattle.std.proofs.Common.{◌≡◌, ◌≤◌, ◌<◌, ◌+◌, ◌-◌, ◌*◌, ◌/◌, ◌%◌, ◌^◌, ◌↔◌, ℕ, List, [], ◌++◌, length, take, refl, sym, ◌∙◌, ap, subst, arith, append_assoc, length-append, Option, Some, None, Result, Ok, Err}
+use Rattle.std.proofs.Common.{◌≡◌, ◌≤◌, ◌<◌, ◌+◌, ◌-◌, ◌*◌, ◌/◌, ◌^◌, ◌↔◌, ℕ, List, [], ◌++◌, length, take, refl, sym, ◌∙◌, ap, subst, arith, append_assoc, length-append, None, Ok, Err}
 use Rattle.std.proofs.lemmas.List.{append-nil, length-take-le, take-append-le}
-use Rattle.link_traits.specs.Link.{Told, Receives, stream, joined}
+use Rattle.link_traits.specs.Link.{Receives, stream, joined}
 use Rattle.link_traits.specs.declared.link.Link.{Ghosts}
 use Rattle.my_packets.proofs.Packets.{packets_length}
 use Rattle.my_packets.specs.Begins.{IsWrong}
-use Rattle.my_packets.specs.Front.{HasMessage, IsPart, Wants}
+use Rattle.my_packets.specs.Front.{IsPart, Wants}
 use Rattle.my_packets.specs.Packet.{packets, packet_count, id_behind}
 use Rattle.my_packets.specs.Skimmed.{Skimmed}
 use Rattle.my_packets.specs.Skims.{Skims, IsAt, IsRead, wanted, Feeds, wanted_at, fault_of, fault_at}
@@ -15,9 +15,9 @@ use Rattle.my_packets.specs.declared.skim.Stage.{Stage}
 use Rattle.my_packets.specs.declared.skim.Stage.TheVariants.{Header, Packet, Whole, Wrong}
 use Rattle.my_session.proofs.Within.{wrong_within, full_within}
 use Rattle.my_session.specs.Channel.{wire_at, packets_within, Skimmed as Skimming}
-use Rattle.my_session.specs.Halt.{Misheard, IsFull}
+use Rattle.my_session.specs.Halt.{Misheard}
 use Rattle.my_session.specs.Receiving.{Sips, Spoils, Drains, Unsipped}
-use Rattle.my_session.specs.Wire.{Wire, Hears, within}
+use Rattle.my_session.specs.Wire.{within}
 use Rattle.my_session.specs.declared.fault.SessionFault.{SessionFault}
 use Rattle.my_session.specs.declared.fault.SessionFault.TheVariants.{Link, Refused, Garbled, NotProtocol10, PluginUnsupported, TooLong, StreamTooLong, OutOfMemory}
 

@@ -1,11 +1,11 @@
 -- What of a stream is within the limit of a session, and what stands in its front.
-use Rattle.std.proofs.Common.{◌≡◌, ◌≤◌, ◌+◌, ◌-◌, ◌*◌, ◌^◌, ℕ, List, ◌++◌, length, take, refl, sym, ◌∙◌, ap, subst, arith, append_assoc}
+use Rattle.std.proofs.Common.{◌≡◌, ◌≤◌, ◌+◌, ◌-◌, ◌^◌, ℕ, List, ◌++◌, length, take, sym, ◌∙◌, ap, subst, arith, append_assoc}
 use Rattle.std.proofs.Math.Seq.{take-append-add}
 use Rattle.std.proofs.lemmas.List.{append-nil}
 use Rattle.my_packets.proofs.Packets.{packets_length}
 use Rattle.my_packets.specs.Begins.{IsWrong}
-use Rattle.my_packets.specs.Front.{HasFull, HasMessage, HasWrongId, IsTooLong}
-use Rattle.my_packets.specs.Packet.{packets, packet_count, full_packets, HasHeader}
+use Rattle.my_packets.specs.Front.{HasFull, HasMessage}
+use Rattle.my_packets.specs.Packet.{packets, full_packets, HasHeader}
 use Rattle.my_packets.specs.declared.frames.FrameFault.{FrameFault}
 use Rattle.my_packets.specs.declared.frames.FrameFault.TheVariants.{BadSequence, TooLong}
 use Rattle.my_session.specs.Wire.{Wire, Hears, within}

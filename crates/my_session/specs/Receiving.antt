@@ -5,7 +5,7 @@ use Rattle.link_traits.specs.declared.link.Link.{Ghosts}
 use Rattle.my_packets.specs.Begins.{IsWrong}
 use Rattle.my_packets.specs.Front.{HasMessage, HasWrongId, IsTooLong}
 use Rattle.my_packets.specs.Skimmed.{Skimmed}
-use Rattle.my_packets.specs.Skims.{Skims, Feeds, fault_of}
+use Rattle.my_packets.specs.Skims.{Skims, fault_of}
 use Rattle.my_packets.specs.Unread.{Unread}
 use Rattle.my_packets.specs.declared.frames.FrameFault.{FrameFault}
 use Rattle.my_packets.specs.declared.frames.FrameFault.TheVariants.{BadSequence, TooLong as FrameTooLong}

@@ -3,20 +3,20 @@ use Rattle.std.specs.Prelude.{ℕ, ◌≡◌, ◌≤◌, ◌↔◌, ◌⊎◌, B
 use Rattle.link_traits.specs.Cause.{Rose}
 use Rattle.link_traits.specs.Link.{stream}
 use Rattle.link_traits.specs.declared.link.Link.{Ghosts}
-use Rattle.result_rows.specs.Reading.{Reading, Further, row, end, idle, further_of}
+use Rattle.result_rows.specs.Reading.{Reading, row, end, idle, further_of}
 use Rattle.result_rows.specs.RowCells.{row_cells}
 use Rattle.result_rows.specs.declared.row.Row.{Row}
 use Rattle.sql_statements.specs.Form.{query_form}
 use Rattle.sql_statements.specs.declared.command.Command.{Command}
 use Rattle.sql_statements.specs.declared.form.Form.{Form}
 use Rattle.sql_statements.specs.declared.query.Query.{Query}
-use Rattle.my_session.specs.Awaited.{Awaited, further}
+use Rattle.my_session.specs.Awaited.{further}
 use Rattle.my_session.specs.Halt.{Halts, Stops}
 use Rattle.my_session.specs.Statements.{IsRun, RunAwaits, RunSends, IsDescribed, QueryAwaits, QuerySends}
 use Rattle.my_session.specs.Login.{IsLoggedIn, LoginAwaits, LoginSends}
-use Rattle.my_session.specs.Wire.{Wire, Takes, Hears}
+use Rattle.my_session.specs.Wire.{Wire, Takes, Hears, IsOnward}
 use Rattle.my_session.specs.declared.fault.SessionFault.{SessionFault}
-use Rattle.my_session.specs.declared.fault.SessionFault.TheVariants.{Link, Refused, Garbled, NotProtocol10, PluginUnsupported, TooLong, StreamTooLong, OutOfMemory}
+use Rattle.my_session.specs.declared.fault.SessionFault.TheVariants.{Link, Refused, NotProtocol10, PluginUnsupported}
 
 -- the rows that are pending: where in the result set the reader is, and the form of the statement that asked for them
 pub record Pending : Type 0 where
@@ -105,6 +105,11 @@ PendingBehindRow old (Ok (Some found)) new = new ≡ old
 PendingBehindRow old (Ok None) new = new.reading ≡ idle
 PendingBehindRow old (Err fault) new = new.reading ≡ idle
 
+-- a row and the end of the rows take bytes off the link, whether it tells or not
+abbrev pub MovesOn : ℕ → Result (Option Row) SessionFault → ℕ → Type 0
+MovesOn old (Ok found) new = IsOnward old new
+MovesOn old (Err fault) new = Unit {0}
+
 -- what a reader of rows says of one: whether it tells what goes over its link, that, its faults, whether it has failed, what is pending
 pub record ReaderView : Type 0 where
   pub wire : Wire
@@ -118,6 +123,7 @@ pub record NextRow (tells : Type 0) (old : ReaderView) (result : Result (Option 
   pub counted : IsCounted old.faults new.faults result
   pub has_failed : new.has_failed ≡ failed_by result
   pub pending : PendingBehindRow old.pending result new.pending
+  pub onward : MovesOn old.wire.place result new.wire.place
   pub takes : tells → TakesRow old.pending old.wire result new.wire
 
 module _ {L : Type 0} (of : Ghosts L) where

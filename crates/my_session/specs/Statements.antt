@@ -1,6 +1,6 @@
 -- Statements and their replies (MySQL source documentation, COM_QUERY, COM_QUERY Response, ProtocolText::Resultset).
-use Rattle.std.specs.Prelude.{ℕ, ◌≡◌, ◌+◌, ◌-◌, ◌⊎◌, List, [], ◌∷◌, ◌++◌, length, map, replicate, Some}
-use Rattle.result_rows.specs.Reading.{Reading, Further, definition, counted, further_of}
+use Rattle.std.specs.Prelude.{ℕ, ◌≡◌, ◌+◌, ◌-◌, List, [], ◌∷◌, ◌++◌, length, map, replicate, Some}
+use Rattle.result_rows.specs.Reading.{Reading, definition, counted}
 use Rattle.result_rows.specs.Reply.{reply_of}
 use Rattle.result_rows.specs.ResultSet.{taken}
 use Rattle.result_rows.specs.declared.reader.Reply.TheVariants.{Done, Columns}
@@ -9,7 +9,7 @@ use Rattle.sql_statements.specs.Text.{command_text, query_text}
 use Rattle.sql_statements.specs.declared.command.Command.{Command}
 use Rattle.sql_statements.specs.declared.command.Command.TheVariants.{Use}
 use Rattle.sql_statements.specs.declared.query.Query.{Query}
-use Rattle.sql_statements.specs.declared.query.Query.TheVariants.{MasterStatus, Schemas, Tables, Columns as ColumnsQuery, PrimaryKey, Triggers, Routines, ViewNeeds, CreateDatabase, CreateTable, CreateView, CreateProcedure, CreateFunction, CreateTrigger, Key, KeyAbove, Rows, RowsByKey, RowsAbove, RowsUpTo, RowsBetween, ProgressDump, ProgressFiles}
+use Rattle.sql_statements.specs.declared.query.Query.TheVariants.{CreateTable, CreateView, CreateProcedure, CreateFunction, CreateTrigger}
 use Rattle.my_session.specs.Awaited.{Awaited, done, count, further}
 use Rattle.my_session.specs.Wire.{Step, commands, hears}
 

@@ -1,5 +1,5 @@
 -- What goes over a link: payloads that are sent, and messages that are heard (MySQL source documentation, "MySQL Packets").
-use Rattle.std.specs.Prelude.{ℕ, ◌≡◌, ◌≤◌, ◌+◌, ◌-◌, ◌*◌, ◌^◌, List, [], ◌∷◌, ◌++◌, length, take}
+use Rattle.std.specs.Prelude.{ℕ, ◌≡◌, ◌<◌, ◌≤◌, ◌+◌, ◌-◌, ◌*◌, ◌^◌, List, [], ◌∷◌, ◌++◌, length, take}
 use Rattle.my_packets.specs.Packet.{packets, packet_count, id_behind}
 use Rattle.my_session.specs.declared.limits.TheConstants.{MESSAGE_LIMIT}
 
@@ -34,6 +34,11 @@ pub record Hears (message : List ℕ) (old new : Wire) : Type 0 where
   pub within : new.place ≤ 2 ^ 62
   pub id : new.id ≡ id_behind (packet_count (length message)) old.id
   pub sent : new.sent ≡ old.sent
+
+-- more bytes were heard up to the new place than up to the old, and no more than a session hears
+pub record IsOnward (old new : ℕ) : Type 0 where
+  pub more : old < new
+  pub within : new ≤ 2 ^ 62
 
 -- a step of a conversation: a command is sent, whose packets begin at id 0; a further payload of the same exchange is sent; a message is heard
 pub data Step : Type 0 where

@@ -9,7 +9,7 @@ ghost use Rattle.my_session.specs.Channel.{ChannelView, channel_wire, wire_at, I
 ghost use Rattle.my_session.specs.Halt.{Misheard, Silent, Unsaid};
 ghost use Rattle.my_session.specs.Receiving.{Fetches, Sips, Unfetched, Unsettled, Unsipped};
 ghost use Rattle.my_session.specs.Session.{IsCounted, failed_by};
-ghost use Rattle.my_session.specs.Wire.{Hears, Sent};
+ghost use Rattle.my_session.specs.Wire.{Hears, IsOnward, Sent};
 
 use crate::fault::SessionFault;
 use crate::limits::{MESSAGE_LIMIT, PIECE, SESSION_LIMIT, SHORT_PAYLOAD};
@@ -128,6 +128,7 @@ fn receive<L: Link>(link: &mut L, frames: &mut Frames, taken: &mut u64) -> Resul
     ensures place { frames.new.place ≤ taken.new }
     ensures within { taken.new ≤ SESSION_LIMIT }
     ensures empty { OnOk result (frames.new.bytes ≡ []) }
+    ensures onward { OnOk result (IsOnward taken.old taken.new) }
     ensures heard { OnOk result (L.tells link.old → Hears frames.new.message (wire_at L.Link link.old taken.old frames.old.id) (wire_at L.Link link.new taken.new frames.new.id)) }
     ensures err { IfErr result (λ fault. L.tells link.old → Misheard (wire_at L.Link link.old taken.old frames.old.id) fault (wire_at L.Link link.new taken.new frames.new.id)) }
 {
@@ -399,6 +400,7 @@ impl<L: Link> Channel<L> {
         ensures failed { self.new.has_failed ≡ failed_by result }
         ensures kind { IfErr result IsOfChannel }
         ensures began { OnOk result (self.new.began ≡ self.old.place) }
+        ensures onward { OnOk result (IsOnward self.old.place self.new.place) }
         ensures heard { OnOk result (L.tells self.old.link → Hears self.new.message (channel_wire L.Link self.old) (channel_wire L.Link self.new)) }
         ensures err { IfErr result (λ fault. L.tells self.old.link → Misheard (channel_wire L.Link self.old) fault (channel_wire L.Link self.new)) }
     {

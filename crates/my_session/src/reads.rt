@@ -37,7 +37,9 @@ pub trait Reads {
         ensures asks { tells self.old → Asks query.now (view self.old).wire result (view self.new).wire };
 
     /// The next row, lent until the next call, or `None` exactly at the end of the rows. The
-    /// condition is that rows are pending. Takes no memory but that of the row's own message.
+    /// condition is that rows are pending. Either comes in bytes that weren't heard before, and no
+    /// more than 2^62 are heard in all, so a loop over the rows ends. Takes no memory but that of
+    /// the row's own message.
     fn next_row(&mut self) -> Result<Option<Row<'_>>, SessionFault>
         requires alive { (view self.old).has_failed ≡ false }
         requires pending { 0 < (view self.old).pending.reading.columns }

@@ -12,7 +12,7 @@ ghost use Rattle.my_session.specs.Heard.{HearsReply, HearsDefinition, IsBehindRo
 ghost use Rattle.my_session.specs.Lead.{lead_of};
 ghost use Rattle.my_session.specs.Session.{Asks, IsCounted, IsOfStatement, failed_by, rows_of};
 ghost use Rattle.my_session.specs.Statements.{IsLed, LeadAwaits, LeadSends, IsAsked, IsDescribed, QueryAwaits, QuerySends, query_payload};
-ghost use Rattle.my_session.specs.Wire.{Wire, Hears, Sent, Takes};
+ghost use Rattle.my_session.specs.Wire.{Wire, Hears, IsOnward, Sent, Takes};
 
 use crate::channel::Channel;
 use crate::fault::SessionFault;
@@ -297,6 +297,7 @@ fn advance<L: Link>(
     ensures counted { IsCounted (L.faults channel.old.link) (L.faults channel.new.link) result }
     ensures alive { failed_by result ≡ false → channel.new.has_failed ≡ false }
     ensures began { OnOk result (channel.new.began ≡ channel.old.place) }
+    ensures onward { OnOk result (IsOnward channel.old.place channel.new.place) }
     ensures reader { MatchResult result (λ is_row. IsBehindRow reader.old channel.new.message is_row reader.new) (λ _. reader.new ≡ idle) }
     ensures heard { OnOk result (L.tells channel.old.link → Hears channel.new.message (channel_wire L.Link channel.old) (channel_wire L.Link channel.new)) }
     ensures err { IfErr result (λ fault. L.tells channel.old.link → Halts (further form reader.old) (channel_wire L.Link channel.old) fault (channel_wire L.Link channel.new)) }

@@ -1,4 +1,4 @@
-use Rattle.std.proofs.Common.{arith, subst, refl, ◌≡◌, ◌≤◌, take, length}
+use Rattle.std.proofs.Common.{arith, subst, refl}
 use Rattle.std.proofs.lemmas.Grind.{common_steps}
 use Rattle.my_session.proofs.Skimming.{sips_piece, spoils_piece}
 use Rattle.my_session.specs.Receiving.{Spoils}

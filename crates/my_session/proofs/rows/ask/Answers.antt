@@ -1,4 +1,3 @@
-use Rattle.std.proofs.Common.{◌∙◌}
 use Rattle.my_session.specs.Channel.{channel_wire}
 use Rattle.my_session.proofs.Querying.{lead_stops, query_unsaid, query_said, count_halts, described_first}
 use Rattle.my_session.proofs.rows.ask.Goals as goal
