@@ -1,0 +1,96 @@
+-- Links that show what a plain statement may bring.
+use Rattle.std.proofs.Common.{◌≡◌, ℕ, Bool, true, false, List, [], ◌∷◌, ◌++◌, Some, None, refl, ap, sym}
+use Rattle.std.proofs.lemmas.Bool.{false≢true}
+use Rattle.std.specs.Prelude.{decimal}
+use Rattle.server_model.specs.declared.data.Position.{Position}
+use Rattle.server_model.specs.declared.data.Transaction.{Transaction}
+use Rattle.sql_literals.specs.declared.cell.Cell.{Cell}
+use Rattle.sql_literals.specs.declared.cell.Cell.TheVariants.{Null, Value}
+use Rattle.honest_server.specs.Laws.{APlainSnapshotMayShowMore, ThePositionMayMoveBehindTheLock}
+use Rattle.honest_server.specs.State.{State, Terms, in_session, no_settings, with_others}
+
+-- a link that has seen nothing and holds the read lock or doesn't
+abbrev link : Bool → State
+link frozen = record {
+  terms = record { base = []; quiet = false; sole = false; willing = false; plugin = [] };
+  phase = in_session;
+  seen = [];
+  guarded = false;
+  frozen = frozen;
+  view = None;
+  pending = None;
+  mine = [];
+  schema = None;
+  settings = no_settings;
+  errors = [];
+  grants = [];
+}
+
+abbrev here : Position
+here = record { file = []; offset = 0; gtid = [] }
+
+abbrev one : Transaction
+one = record { changes = []; mark = Some here }
+
+abbrev status : List (List Cell)
+status = (Value [] ∷ Value (decimal 0) ∷ Null ∷ Null ∷ Value [] ∷ []) ∷ []
+
+no_length : {X : Type 0} {x : X} {xs : List X} → x ∷ xs ≡ [] → ⊥
+no_length {X = X} {x = x} {xs = xs} e = absurd (false≢true (ap (λ (list : List X). is_empty list) e))
+  where
+    is_empty : List X → Bool
+    is_empty [] = true
+    is_empty (x ∷ xs) = false
+
+pub snapshot : APlainSnapshotMayShowMore
+snapshot = (
+  link true,
+  link false,
+  record (with_others (link false) (one ∷ [])) { view = Some (one ∷ []) },
+  refl,
+  refl,
+  record {
+    more = one ∷ [];
+    sees = record {
+      follows = record { frozen = λ p. absurd (false≢true p); guarded = λ p. absurd (false≢true p); shared = λ p q. absurd (false≢true p) };
+      sole = λ p q. absurd (false≢true p);
+      willing = λ p q. absurd (false≢true p);
+    };
+    handles = record { middle = with_others (link false) (one ∷ []); ended = refl; new_is = refl };
+    ends = tt;
+  },
+  (λ e. no_length (some_same e)),
+)
+  where
+    some_same : {xs ys : List Transaction} → Some xs ≡ Some ys → xs ≡ ys
+    some_same e = cc
+
+pub position : ThePositionMayMoveBehindTheLock
+position = (
+  link true,
+  link false,
+  with_others (link false) (one ∷ []),
+  status,
+  refl,
+  record {
+    more = [];
+    sees = record {
+      follows = record { frozen = λ p. refl; guarded = λ p. absurd (false≢true p); shared = λ p q. absurd (false≢true p) };
+      sole = λ p q. refl;
+      willing = λ p q. refl;
+    };
+    handles = refl;
+    ends = tt;
+  },
+  record {
+    more = one ∷ [];
+    sees = record {
+      follows = record { frozen = λ p. absurd (false≢true p); guarded = λ p. absurd (false≢true p); shared = λ p q. absurd (false≢true p) };
+      sole = λ p q. absurd (false≢true p);
+      willing = λ p q. absurd (false≢true p);
+    };
+    handles = (record { third = Null; fourth = Null; gtid = []; more = []; rows_are = refl; gtid_is = refl }, refl);
+    ends = tt;
+  },
+  no_length,
+)

@@ -1,0 +1,236 @@
+-- What a query is answered over a database (MySQL 8.0 Reference Manual, 28.3 "INFORMATION_SCHEMA General Tables", 15.7.7 "SHOW Statements", 15.2.13 "SELECT Statement").
+use Rattle.std.specs.Prelude.{ℕ, ◌≡◌, ◌⊎◌, ◌==◌, ◌&&◌, ◌||◌, not, cond, Bool, true, false, List, [], ◌∷◌, ◌++◌, map, filter, filter_map, flat_map, find, position, take, drop, length, slice_get, Option, Some, None, option_and_then, option_map, bytes_eq, codes, decimal, ℤ, int_lt, int_le, IsSome}
+use Rattle.std.specs.List.{list_any, list_all}
+use Rattle.object_texts.specs.Shape.{shape, is_key}
+use Rattle.object_texts.specs.declared.head.Kind.{Kind}
+use Rattle.object_texts.specs.declared.head.Kind.TheVariants.{Schema, Table, Procedure, Function, View, Trigger}
+use Rattle.object_texts.specs.declared.shape.Column.{Column}
+use Rattle.server_model.specs.Bag.{IsSameBag}
+use Rattle.server_model.specs.Fold.{is_object, table_of, rows_of}
+use Rattle.server_model.specs.declared.data.Database.{Database}
+use Rattle.server_model.specs.declared.data.Need.{Need}
+use Rattle.server_model.specs.declared.data.Object.{Object}
+use Rattle.server_model.specs.declared.data.Position.{Position}
+use Rattle.server_model.specs.declared.data.Settings.{Settings}
+use Rattle.sql_literals.specs.declared.cell.Cell.{Cell}
+use Rattle.sql_literals.specs.declared.cell.Cell.TheVariants.{Null, Value}
+use Rattle.sql_statements.specs.declared.query.Query.{Query}
+use Rattle.sql_statements.specs.declared.query.Query.TheVariants.{MasterStatus, Schemas, Tables, Columns as ColumnsQuery, PrimaryKey, Triggers, Routines, ViewNeeds, CreateDatabase, CreateTable, CreateView, CreateProcedure, CreateFunction, CreateTrigger, Key, KeyAbove, Rows, RowsByKey, RowsAbove, RowsUpTo, RowsBetween, ProgressDump, ProgressFiles}
+use Rattle.honest_server.specs.Columns.{cell_at, integer_at, plain_names}
+
+-- the object of this kind, schema and name
+abbrev pub object_at : Database → Kind → List ℕ → List ℕ → Option Object
+object_at database kind schema name = find (is_object kind schema name) database.objects
+
+abbrev pub is_in_schema : List ℕ → Object → Bool
+is_in_schema schema object = bytes_eq object.schema schema
+
+abbrev pub cell_of : Option (List ℕ) → Cell
+cell_of None = Null
+cell_of (Some bytes) = Value bytes
+
+-- SCHEMATA: the name of each schema
+abbrev pub schema_row : Object → Kind → Option (List Cell)
+schema_row object Schema = Some (Value object.name ∷ [])
+schema_row object kind = None
+
+-- TABLES: the name and the engine of each table, and the name of each view, whose engine is NULL
+abbrev pub table_row : Object → Kind → Option (List Cell)
+table_row object Table = Some (Value object.name ∷ Value (codes "BASE TABLE") ∷ cell_of (option_map (λ found. found.engine) (shape object.text)) ∷ [])
+table_row object View = Some (Value object.name ∷ Value (codes "VIEW") ∷ Null ∷ [])
+table_row object kind = None
+
+-- TRIGGERS: the name of each trigger, its table's, and its rank
+abbrev pub trigger_row : Object → Kind → Option (List Cell)
+trigger_row object Trigger = Some (Value object.name ∷ Value (table_of object.needs).name ∷ Value (decimal object.rank) ∷ [])
+trigger_row object kind = None
+
+-- ROUTINES: the name of each procedure and function, and which of the two it is
+abbrev pub routine_row : Object → Kind → Option (List Cell)
+routine_row object Procedure = Some (Value object.name ∷ Value (codes "PROCEDURE") ∷ [])
+routine_row object Function = Some (Value object.name ∷ Value (codes "FUNCTION") ∷ [])
+routine_row object kind = None
+
+-- VIEW_TABLE_USAGE: the name of each view beside the schema and the name of each thing that it needs
+abbrev pub need_rows : Object → Kind → List (List Cell)
+need_rows object View = map (λ need. Value object.name ∷ Value need.schema ∷ Value need.name ∷ []) object.needs
+need_rows object kind = []
+
+-- the rows of the objects of a schema
+abbrev pub rows_in_schema : (Object → Kind → Option (List Cell)) → Database → List ℕ → List (List Cell)
+rows_in_schema row database schema = filter_map (λ object. row object object.kind) (filter (is_in_schema schema) database.objects)
+
+-- the bytes hold these bytes at some place
+abbrev pub holds : List ℕ → List ℕ → Bool
+holds needle [] = bytes_eq needle []
+holds needle (byte ∷ bytes) = bytes_eq needle (take (length needle) (byte ∷ bytes)) || holds needle bytes
+
+-- what EXTRA says of a generated column
+abbrev pub says_generated : List ℕ → Bool
+says_generated extra = holds (codes "VIRTUAL GENERATED") extra || holds (codes "STORED GENERATED") extra
+
+-- COLUMNS: a column's name and type, whether it is unsigned, and whether it is generated
+pub record IsColumnRow (column : Column) (row : List Cell) : Type 0 where
+  pub column_type : List ℕ
+  pub extra : List ℕ
+  pub row_is : row ≡ Value column.name ∷ Value column.data_type ∷ Value column_type ∷ Value extra ∷ []
+  pub unsigned : holds (codes "unsigned") column_type ≡ column.unsigned
+  pub generated : says_generated extra ≡ column.generated
+
+-- one row for each column, in their order
+abbrev pub AreColumnRows : List Column → List (List Cell) → Type 0
+AreColumnRows [] [] = Unit {0}
+AreColumnRows [] (row ∷ rows) = ⊥
+AreColumnRows (column ∷ columns) [] = ⊥
+AreColumnRows (column ∷ columns) (row ∷ rows) = IsColumnRow column row × AreColumnRows columns rows
+
+-- STATISTICS: the columns of a primary key, which tell the table's key: the only one, where it is plain and an integer
+abbrev pub key_told : List Column → List (List Cell) → Option ℕ
+key_told columns ((Value name ∷ []) ∷ []) = position (is_key name) columns
+key_told columns rows = None
+
+-- each row is the name of a column
+abbrev pub is_column_name : List Column → List Cell → Bool
+is_column_name columns (Value name ∷ []) = list_any (λ column. bytes_eq column.name name) columns
+is_column_name columns row = false
+
+-- a table's answer, where the table isn't there: none
+abbrev pub WhereThere : Option Object → (Object → Type 0) → Type 0 → Type 0
+WhereThere None P otherwise = otherwise
+WhereThere (Some object) P otherwise = P object
+
+-- SHOW CREATE: one row, in which the text stands in this place, behind the mode where it stands third, and before the settings
+abbrev pub ShowsText : Object → List (List Cell) → Type 0
+ShowsText object rows = (first : Cell) × (more : List Cell) × (rows ≡ (first ∷ Value object.text ∷ more) ∷ [])
+
+pub record ShowsView (object : Object) (rows : List (List Cell)) : Type 0 where
+  pub settings : Settings
+  pub settings_are : object.settings ≡ Some settings
+  pub first : Cell
+  pub more : List Cell
+  pub rows_are : rows ≡ (first ∷ Value object.text ∷ Value settings.client ∷ Value settings.collation ∷ more) ∷ []
+
+-- the text of a routine or a trigger, in whose place NULL may stand
+pub record ShowsRoutine (object : Object) (rows : List (List Cell)) : Type 0 where
+  pub settings : Settings
+  pub settings_are : object.settings ≡ Some settings
+  pub first : Cell
+  pub text : Cell
+  pub more : List Cell
+  pub text_is : (text ≡ Value object.text) ⊎ (text ≡ Null)
+  pub rows_are : rows ≡ (first ∷ Value settings.sql_mode ∷ text ∷ Value settings.client ∷ Value settings.collation ∷ more) ∷ []
+
+-- a bound that a key is above, and one that it is at most
+pub record Bounds : Type 0 where
+  pub above : Option ℤ
+  pub up_to : Option ℤ
+
+abbrev pub is_above : Option ℤ → ℤ → Bool
+is_above None number = true
+is_above (Some bound) number = int_lt bound number
+
+abbrev pub is_up_to : Option ℤ → ℤ → Bool
+is_up_to None number = true
+is_up_to (Some bound) number = int_le number bound
+
+abbrev pub is_inside : Bounds → Option ℤ → Bool
+is_inside bounds None = false
+is_inside bounds (Some number) = is_above bounds.above number && is_up_to bounds.up_to number
+
+-- each key is less than the next
+abbrev pub keys_rise : List (Option ℤ) → Bool
+keys_rise [] = true
+keys_rise (one ∷ []) = true
+keys_rise (Some one ∷ Some next ∷ keys) = int_lt one next && keys_rise (Some next ∷ keys)
+keys_rise keys = false
+
+-- the key of the table is this column
+pub record HasKey (object : Object) (key : List ℕ) : Type 0 where
+  pub index : ℕ
+  pub column : Column
+  pub key_is : object.key ≡ Some index
+  pub column_is : slice_get object.columns index ≡ Some column
+  pub name : column.name ≡ key
+
+-- the rows of the table whose key is inside the bounds, in the order of the key
+pub record AreInOrder (database : Database) (object : Object) (index : ℕ) (bounds : Bounds) (rows : List (List Cell)) : Type 0 where
+  pub same : IsSameBag rows (filter (λ row. is_inside bounds (integer_at object.columns index row)) (rows_of database object.schema object.name))
+  pub rise : keys_rise (map (integer_at object.columns index) rows) ≡ true
+
+-- all plain columns were asked for, and the rows inside the bounds came
+pub record ShowsRows (database : Database) (object : Object) (columns : List (List ℕ)) (key : List ℕ) (bounds : Bounds) (rows : List (List Cell)) : Type 0 where
+  pub all_columns : columns ≡ plain_names object.columns
+  pub has_key : HasKey object key
+  pub in_order : AreInOrder database object has_key.index bounds rows
+
+-- all plain columns were asked for, and all rows came, in any order
+pub record ShowsAll (database : Database) (object : Object) (columns : List (List ℕ)) (rows : List (List Cell)) : Type 0 where
+  pub all_columns : columns ≡ plain_names object.columns
+  pub same : IsSameBag rows (rows_of database object.schema object.name)
+
+-- the cell of a row in one column
+abbrev pub only_cell : List Column → ℕ → List Cell → Option (List Cell)
+only_cell columns index row = option_map (λ cell. cell ∷ []) (cell_at columns index row)
+
+-- the key behind so many others that are above the bound, or none
+pub record ShowsKey (database : Database) (object : Object) (key : List ℕ) (above : Option ℤ) (skipped : ℕ) (rows : List (List Cell)) : Type 0 where
+  pub has_key : HasKey object key
+  pub whole : List (List Cell)
+  pub in_order : AreInOrder database object has_key.index (record { above = above; up_to = None }) whole
+  pub rows_are : rows ≡ filter_map (only_cell object.columns has_key.index) (take 1 (drop skipped whole))
+
+abbrev pub everything : Bounds
+everything = record { above = None; up_to = None }
+
+abbrev pub progress_schema : List ℕ
+progress_schema = codes "myloader_progress"
+
+-- the rows that answer a query over a database: one that isn't answered here has no answer
+abbrev pub Answers : Database → Query → List (List Cell) → Type 0
+Answers database MasterStatus rows = ⊥
+Answers database Schemas rows = IsSameBag rows (filter_map (λ object. schema_row object object.kind) database.objects)
+Answers database (Tables schema) rows = IsSameBag rows (rows_in_schema table_row database schema)
+Answers database (ColumnsQuery schema table) rows = WhereThere (object_at database Table schema table) (λ object. AreColumnRows object.columns rows) (rows ≡ [])
+Answers database (PrimaryKey schema table) rows = WhereThere (object_at database Table schema table) (λ object. (list_all (is_column_name object.columns) rows ≡ true) × (key_told object.columns rows ≡ object.key)) (rows ≡ [])
+Answers database (Triggers schema) rows = IsSameBag rows (rows_in_schema trigger_row database schema)
+Answers database (Routines schema) rows = IsSameBag rows (rows_in_schema routine_row database schema)
+Answers database (ViewNeeds schema) rows = IsSameBag rows (flat_map (λ object. need_rows object object.kind) (filter (is_in_schema schema) database.objects))
+Answers database (CreateDatabase schema) rows = WhereThere (object_at database Schema schema schema) (λ object. ShowsText object rows) ⊥
+Answers database (CreateTable schema name) rows = WhereThere (object_at database Table schema name) (λ object. ShowsText object rows) ⊥
+Answers database (CreateView schema name) rows = WhereThere (object_at database View schema name) (λ object. ShowsView object rows) ⊥
+Answers database (CreateProcedure schema name) rows = WhereThere (object_at database Procedure schema name) (λ object. ShowsRoutine object rows) ⊥
+Answers database (CreateFunction schema name) rows = WhereThere (object_at database Function schema name) (λ object. ShowsRoutine object rows) ⊥
+Answers database (CreateTrigger schema name) rows = WhereThere (object_at database Trigger schema name) (λ object. ShowsRoutine object rows) ⊥
+Answers database (Key key schema table skipped) rows = WhereThere (object_at database Table schema table) (λ object. ShowsKey database object key None skipped rows) ⊥
+Answers database (KeyAbove key schema table above skipped) rows = WhereThere (object_at database Table schema table) (λ object. ShowsKey database object key (Some above) skipped rows) ⊥
+Answers database (Rows columns schema table) rows = WhereThere (object_at database Table schema table) (λ object. ShowsAll database object columns rows) ⊥
+Answers database (RowsByKey columns schema table key) rows = WhereThere (object_at database Table schema table) (λ object. ShowsRows database object columns key everything rows) ⊥
+Answers database (RowsAbove columns schema table key above) rows = WhereThere (object_at database Table schema table) (λ object. ShowsRows database object columns key (record { above = Some above; up_to = None }) rows) ⊥
+Answers database (RowsUpTo columns schema table key up_to) rows = WhereThere (object_at database Table schema table) (λ object. ShowsRows database object columns key (record { above = None; up_to = Some up_to }) rows) ⊥
+Answers database (RowsBetween columns schema table key above up_to) rows = WhereThere (object_at database Table schema table) (λ object. ShowsRows database object columns key (record { above = Some above; up_to = Some up_to }) rows) ⊥
+Answers database ProgressDump rows = WhereThere (object_at database Table progress_schema (codes "dump")) (λ object. ShowsAll database object (codes "digest" ∷ []) rows) ⊥
+Answers database ProgressFiles rows = WhereThere (object_at database Table progress_schema (codes "files")) (λ object. ShowsAll database object (codes "name" ∷ []) rows) ⊥
+
+-- a GTID set as the server sends it, with line feeds
+abbrev pub without_line_feeds : List ℕ → List ℕ
+without_line_feeds bytes = filter (λ byte. not (byte == 10)) bytes
+
+-- SHOW MASTER STATUS: no row where the history has no mark; else one, with the file, the offset, two others, and the GTID set
+pub record ShowsPosition (position : Position) (rows : List (List Cell)) : Type 0 where
+  pub third : Cell
+  pub fourth : Cell
+  pub gtid : List ℕ
+  pub more : List Cell
+  pub rows_are : rows ≡ (Value position.file ∷ Value (decimal position.offset) ∷ third ∷ fourth ∷ Value gtid ∷ more) ∷ []
+  pub gtid_is : without_line_feeds gtid ≡ position.gtid
+
+abbrev pub ShowsMark : Option Position → List (List Cell) → Type 0
+ShowsMark None rows = rows ≡ []
+ShowsMark (Some position) rows = ShowsPosition position rows
+
+-- the texts of routines and triggers that are asked for aren't withheld
+abbrev pub tells_text : Query → List (List Cell) → Bool
+tells_text (CreateProcedure schema name) ((first ∷ mode ∷ Null ∷ more) ∷ rows) = false
+tells_text (CreateFunction schema name) ((first ∷ mode ∷ Null ∷ more) ∷ rows) = false
+tells_text (CreateTrigger schema name) ((first ∷ mode ∷ Null ∷ more) ∷ rows) = false
+tells_text query rows = true

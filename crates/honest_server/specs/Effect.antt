@@ -1,0 +1,170 @@
+-- What a command does to a link's state and to the history (MySQL 8.0 Reference Manual, 15.3 "Transactional and Locking Statements", 15.7.8.3 "FLUSH Statement", 15.1 "Data Definition Statements").
+use Rattle.std.specs.Prelude.{ℕ, ◌≡◌, ◌<◌, ◌+◌, ◌^◌, max, true, false, List, [], ◌∷◌, ◌++◌, map, filter, fold, Option, Some, None, codes}
+use Rattle.object_texts.specs.Head.{Making, making}
+use Rattle.object_texts.specs.Shape.{undoubled}
+use Rattle.object_texts.specs.declared.head.Kind.{Kind}
+use Rattle.object_texts.specs.declared.head.Kind.TheVariants.{Schema, Table, Procedure, Function, View, Trigger}
+use Rattle.server_model.specs.Fold.{db, has_object}
+use Rattle.server_model.specs.declared.data.Change.{Change}
+use Rattle.server_model.specs.declared.data.Change.TheVariants.{Make}
+use Rattle.server_model.specs.declared.data.Database.{Database}
+use Rattle.server_model.specs.declared.data.Need.{Need}
+use Rattle.server_model.specs.declared.data.Object.{Object}
+use Rattle.server_model.specs.declared.data.Settings.{Settings}
+use Rattle.server_model.specs.declared.data.Transaction.{Transaction}
+use Rattle.sql_literals.specs.declared.cell.Cell.{Cell}
+use Rattle.sql_literals.specs.declared.cell.Cell.TheVariants.{Value}
+use Rattle.sql_statements.specs.Text.{command_text}
+use Rattle.sql_statements.specs.declared.command.Command.{Command}
+use Rattle.sql_statements.specs.declared.command.Command.TheVariants.{SetUp, NamesUtf8mb4, NamesBinary, ForeignKeyChecksOff, TimeZoneUtc, BinaryLogOff, SqlMode, CharacterSetClient, CollationConnection, RepeatableRead, LockInstance, FlushTables, UnlockTables, UnlockInstance, StartSnapshot, Start, Commit, Rollback, Use, Create, CreateProgress, CreateProgressFiles, CreateProgressDump, Insert, InsertProgressFile, InsertProgressDump}
+use Rattle.honest_server.specs.Answer.{progress_schema}
+use Rattle.honest_server.specs.Insert.{is_on_table, Inserts, SpellsInsert}
+use Rattle.honest_server.specs.Moves.{MayFollow}
+use Rattle.honest_server.specs.State.{State, found_by, no_settings, with_own}
+use Rattle.honest_server.specs.WellFormed.{HasItsShape, IsSound, NeedsItsTable}
+
+-- These changes are committed as a transaction, which may have a mark: it may follow what the link has seen, and the history stays sound.
+pub record Commits (state : State) (changes : List Change) (new : State) : Type 0 where
+  pub one : Transaction
+  pub changes_are : one.changes ≡ changes
+  pub follows : MayFollow state (one ∷ [])
+  pub sound : IsSound (state.seen ++ one ∷ [])
+  pub new_is : new ≡ with_own state one
+
+-- the open transaction is committed, where there is one
+abbrev pub EndsOpen : State → Option (List Change) → State → Type 0
+EndsOpen state None new = new ≡ state
+EndsOpen state (Some changes) new = Commits state changes new
+
+-- the schema of an object that is made: a schema's own name, the one that the text names, or the current schema
+abbrev pub MadeIn : Option (List ℕ) → Object → Option (List ℕ) → Kind → Type 0
+MadeIn current object named Schema = object.schema ≡ object.name
+MadeIn current object None kind = current ≡ Some object.schema
+MadeIn current object (Some spelled) kind = object.schema ≡ undoubled spelled
+
+-- the settings of an object that is made
+abbrev pub made_settings : Settings → Kind → Option Settings
+made_settings settings Schema = None
+made_settings settings Table = None
+made_settings settings Procedure = Some settings
+made_settings settings Function = Some settings
+made_settings settings View = Some (record settings { sql_mode = [] })
+made_settings settings Trigger = Some settings
+
+-- the greatest rank of a table's triggers, and 0 where it has none
+abbrev pub greatest_rank : Database → Need → ℕ
+greatest_rank database table = fold (λ rank object. max rank object.rank) 0 (filter (is_on_table table.schema table.name) database.objects)
+
+-- what an object that is made needs, and its rank: a trigger needs its table and stands last there; what a view needs is the server's to say
+pub record IsLastTrigger (database : Database) (object : Object) : Type 0 where
+  pub table : Need
+  pub needs : NeedsItsTable object table
+  pub rank : object.rank ≡ greatest_rank database table + 1
+  pub small : object.rank < 2 ^ 32
+
+abbrev pub HasItsPlace : Database → Object → Kind → Type 0
+HasItsPlace database object Trigger = IsLastTrigger database object
+HasItsPlace database object View = object.rank ≡ 0
+HasItsPlace database object kind = (object.rank ≡ 0) × (object.needs ≡ [])
+
+-- the object that a text makes on a link with these settings and this current schema
+pub record IsMade (state : State) (database : Database) (text : List ℕ) (object : Object) : Type 0 where
+  pub text_is : object.text ≡ text
+  pub found : Making
+  pub is_making : making text ≡ Some found
+  pub kind : object.kind ≡ found.kind
+  pub name : object.name ≡ undoubled found.path.name
+  pub schema : MadeIn state.schema object found.path.schema object.kind
+  pub settings : object.settings ≡ made_settings state.settings object.kind
+  pub shape : HasItsShape object object.kind
+  pub place : HasItsPlace database object object.kind
+
+-- a CREATE commits the open transaction, and makes the object in a transaction of its own
+pub record Creates (state : State) (text : List ℕ) (new : State) : Type 0 where
+  pub middle : State
+  pub ended : EndsOpen state state.pending middle
+  pub database : Database
+  pub stands : db middle.seen ≡ Some database
+  pub object : Object
+  pub made : IsMade middle database text object
+  pub commits : Commits middle (Make object ∷ []) new
+
+-- changes of rows go into the open transaction, or into one of their own
+abbrev pub GoesInto : State → Option (List Change) → List Change → State → Type 0
+GoesInto state None changes new = Commits state changes new
+GoesInto state (Some before) changes new = new ≡ record state { pending = Some (before ++ changes) }
+
+pub record InsertsInto (state : State) (schema table : List ℕ) (columns : List (List ℕ)) (rows : List (List Cell)) (new : State) : Type 0 where
+  pub database : Database
+  pub found : found_by state ≡ Some database
+  pub changes : List Change
+  pub inserts : Inserts database schema table columns rows changes
+  pub goes : GoesInto state state.pending changes new
+
+-- an INSERT is into a table of the current schema
+pub record InsertsText (state : State) (text : List ℕ) (new : State) : Type 0 where
+  pub schema : List ℕ
+  pub is_current : state.schema ≡ Some schema
+  pub table : List ℕ
+  pub columns : List (List ℕ)
+  pub rows : List (List Cell)
+  pub spells : SpellsInsert text table columns rows
+  pub inserts : InsertsInto state schema table columns rows new
+
+-- a schema can be used where it is there
+pub record Uses (state : State) (schema : List ℕ) (new : State) : Type 0 where
+  pub database : Database
+  pub stands : db state.seen ≡ Some database
+  pub is_there : has_object database Schema schema schema ≡ true
+  pub new_is : new ≡ record state { schema = Some schema; settings = no_settings }
+
+-- the open transaction is committed, and the snapshot shows what was seen by then
+pub record TakesSnapshot (state new : State) : Type 0 where
+  pub middle : State
+  pub ended : EndsOpen state state.pending middle
+  pub new_is : new ≡ record middle { view = Some middle.seen }
+
+pub record Starts (state new : State) : Type 0 where
+  pub middle : State
+  pub ended : EndsOpen state state.pending middle
+  pub new_is : new ≡ record middle { pending = Some [] }
+
+-- what a command does that is handled, once the link has seen what it comes to see
+abbrev pub Effect : State → Command → State → Type 0
+Effect state SetUp new = new ≡ record state { settings = no_settings }
+Effect state NamesUtf8mb4 new = new ≡ state
+Effect state NamesBinary new = new ≡ state
+Effect state ForeignKeyChecksOff new = new ≡ state
+Effect state TimeZoneUtc new = new ≡ state
+Effect state BinaryLogOff new = new ≡ state
+Effect state (SqlMode value) new = new ≡ record state { settings = record state.settings { sql_mode = value } }
+Effect state (CharacterSetClient value) new = new ≡ record state { settings = record state.settings { client = value } }
+Effect state (CollationConnection value) new = new ≡ record state { settings = record state.settings { collation = value } }
+Effect state RepeatableRead new = new ≡ state
+Effect state LockInstance new = new ≡ record state { guarded = true }
+Effect state FlushTables new = new ≡ record state { frozen = true; grants = state.grants ++ state.seen ∷ [] }
+Effect state UnlockTables new = new ≡ record state { frozen = false }
+Effect state UnlockInstance new = new ≡ record state { guarded = false }
+Effect state StartSnapshot new = TakesSnapshot state new
+Effect state Start new = Starts state new
+Effect state Commit new = EndsOpen state state.pending new
+Effect state Rollback new = new ≡ record state { pending = None }
+Effect state (Use schema) new = Uses state schema new
+Effect state (Create text) new = Creates state text new
+Effect state CreateProgress new = Creates state (command_text CreateProgress) new
+Effect state CreateProgressFiles new = Creates state (command_text CreateProgressFiles) new
+Effect state CreateProgressDump new = Creates state (command_text CreateProgressDump) new
+Effect state (Insert text) new = InsertsText state text new
+Effect state (InsertProgressFile name) new = InsertsInto state progress_schema (codes "files") (codes "name" ∷ []) ((Value name ∷ []) ∷ []) new
+Effect state (InsertProgressDump digest) new = InsertsInto state progress_schema (codes "dump") (codes "digest" ∷ []) ((Value digest ∷ []) ∷ []) new
+
+-- the commands that commit an open transaction
+abbrev pub EndsTransaction : Command → Type 0
+EndsTransaction StartSnapshot = Unit {0}
+EndsTransaction Start = Unit {0}
+EndsTransaction Commit = Unit {0}
+EndsTransaction (Create text) = Unit {0}
+EndsTransaction CreateProgress = Unit {0}
+EndsTransaction CreateProgressFiles = Unit {0}
+EndsTransaction CreateProgressDump = Unit {0}
+EndsTransaction command = ⊥

@@ -1,0 +1,14 @@
+pub mod Columns
+pub mod WellFormed
+pub mod Catalogue
+pub mod State
+pub mod Moves
+pub mod Answer
+pub mod Insert
+pub mod Effect
+pub mod Serve
+pub mod Spelled
+pub mod Exchange
+pub mod Link
+pub mod Site
+pub mod Laws

@@ -1,0 +1,144 @@
+-- What an honest server's database is like (a premise of our own; MySQL 8.0 Reference Manual, 15.7.7 "SHOW Statements" for the texts, 5.6.9 "Using AUTO_INCREMENT").
+use Rattle.std.specs.Prelude.{ℕ, ◌≡◌, ◌≢◌, ◌<◌, ◌^◌, ◌&&◌, not, nat_le, nat_lt, Bool, true, false, List, [], ◌∷◌, map, All, AllPairs, slice_get, Option, Some, None, IfSome}
+use Rattle.std.specs.List.{list_all}
+use Rattle.std.specs.Str.{is_utf8}
+use Rattle.object_texts.specs.Head.{Making, Path, making, trigger_table}
+use Rattle.object_texts.specs.Shape.{TableShape, TableCounter, shape, counter, undoubled}
+use Rattle.object_texts.specs.declared.head.Kind.{Kind}
+use Rattle.object_texts.specs.declared.head.Kind.TheVariants.{Schema, Table, Procedure, Function, View, Trigger}
+use Rattle.object_texts.specs.declared.shape.Column.{Column}
+use Rattle.server_model.specs.Fold.{has_object, rows_of, db}
+use Rattle.server_model.specs.Select.{is_empty}
+use Rattle.server_model.specs.declared.data.Database.{Database}
+use Rattle.server_model.specs.declared.data.Need.{Need}
+use Rattle.server_model.specs.declared.data.Object.{Object}
+use Rattle.server_model.specs.declared.data.Position.{Position}
+use Rattle.server_model.specs.declared.data.Settings.{Settings}
+use Rattle.server_model.specs.declared.data.Transaction.{Transaction}
+use Rattle.sql_literals.specs.declared.cell.Cell.{Cell}
+use Rattle.honest_server.specs.Columns.{are_numbers, plain_columns, integer_at, is_in_type, is_under, whole_at}
+
+-- a name is UTF-8, and isn't empty
+abbrev pub is_name : List ℕ → Bool
+is_name name = not (is_empty name) && is_utf8 name
+
+-- a name of a text, which may be missing there, is this one
+abbrev pub NamesOrLeavesOut : Option (List ℕ) → List ℕ → Type 0
+NamesOrLeavesOut None name = Unit {0}
+NamesOrLeavesOut (Some spelled) name = undoubled spelled ≡ name
+
+-- the head of an object's text gives its kind and its name, and its schema where it gives one; a schema's schema is its name
+pub record HasItsHead (object : Object) : Type 0 where
+  pub found : Making
+  pub is_making : making object.text ≡ Some found
+  pub kind : found.kind ≡ object.kind
+  pub name : undoubled found.path.name ≡ object.name
+  pub schema : NamesOrLeavesOut found.path.schema object.schema
+  pub own : object.kind ≡ Schema → object.schema ≡ object.name
+
+-- a procedure, a function, a view and a trigger have settings, and a view's sql_mode is empty
+abbrev pub HasItsSettings : Kind → Option Settings → Type 0
+HasItsSettings Schema settings = settings ≡ None
+HasItsSettings Table settings = settings ≡ None
+HasItsSettings Procedure settings = (made : Settings) × (settings ≡ Some made)
+HasItsSettings Function settings = (made : Settings) × (settings ≡ Some made)
+HasItsSettings View settings = (made : Settings) × (settings ≡ Some made) × (made.sql_mode ≡ [])
+HasItsSettings Trigger settings = (made : Settings) × (settings ≡ Some made)
+
+-- a table's columns and key are those of its text's shape
+pub record IsShaped (object : Object) : Type 0 where
+  pub found : TableShape
+  pub is_shape : shape object.text ≡ Some found
+  pub columns : object.columns ≡ map (λ told. told.column) found.columns
+  pub key : object.key ≡ found.key
+
+pub record IsUnshaped (object : Object) : Type 0 where
+  pub columns : object.columns ≡ []
+  pub key : object.key ≡ None
+
+-- no other object has columns and a key
+abbrev pub HasItsShape : Object → Kind → Type 0
+HasItsShape object Table = IsShaped object
+HasItsShape object kind = IsUnshaped object
+
+-- a trigger needs one table, which is that of its text and of its schema
+pub record NeedsItsTable (object : Object) (table : Need) : Type 0 where
+  pub found : Path
+  pub is_found : trigger_table object.text ≡ Some found
+  pub schema : NamesOrLeavesOut found.schema object.schema
+  pub own : table.schema ≡ object.schema
+  pub name : table.name ≡ undoubled found.name
+  pub needs : object.needs ≡ table ∷ []
+
+-- and that table is there
+abbrev pub HasItsTable : Database → Object → Kind → Type 0
+HasItsTable database object Trigger = (table : Need) × NeedsItsTable object table × (has_object database Table table.schema table.name ≡ true)
+HasItsTable database object kind = Unit {0}
+
+-- the key of each row is an integer of its column's type, and no two rows have the same
+pub record HasKeys (columns : List Column) (index : ℕ) (rows : List (List Cell)) : Type 0 where
+  pub column : Column
+  pub column_is : slice_get columns index ≡ Some column
+  pub integers : All (λ row. IfSome (integer_at columns index row) (λ number. is_in_type column number ≡ true) × (integer_at columns index row ≢ None)) rows
+  pub distinct : AllPairs (λ one other. integer_at columns index one ≢ integer_at columns index other) rows
+
+abbrev pub HasKeysWhere : List Column → Option ℕ → List (List Cell) → Type 0
+HasKeysWhere columns None rows = Unit {0}
+HasKeysWhere columns (Some index) rows = HasKeys columns index rows
+
+-- each cell of the AUTO_INCREMENT column is a number under the table's counter
+pub record IsCounted (columns : List Column) (counter : TableCounter) (rows : List (List Cell)) : Type 0 where
+  pub column : Column
+  pub column_is : slice_get columns counter.column ≡ Some column
+  pub integers : All (λ row. IfSome (whole_at columns counter.column row) (λ number. is_under column counter.next number ≡ true) × (whole_at columns counter.column row ≢ None)) rows
+
+abbrev pub IsCountedWhere : List Column → Option TableCounter → List (List Cell) → Type 0
+IsCountedWhere columns None rows = Unit {0}
+IsCountedWhere columns (Some found) rows = IsCounted columns found rows
+
+-- the rows of a table are as its columns have them
+pub record HasGoodRows (object : Object) (rows : List (List Cell)) : Type 0 where
+  pub numbers : All (λ row. are_numbers (plain_columns object.columns) row ≡ true) rows
+  pub keys : HasKeysWhere object.columns object.key rows
+  pub counted : IsCountedWhere object.columns (counter object.text) rows
+
+abbrev pub HasGoodRowsWhere : Database → Object → Kind → Type 0
+HasGoodRowsWhere database object Table = HasGoodRows object (rows_of database object.schema object.name)
+HasGoodRowsWhere database object kind = Unit {0}
+
+-- what is needed has a schema and a name
+pub record IsNamed (need : Need) : Type 0 where
+  pub schema : is_name need.schema ≡ true
+  pub name : is_name need.name ≡ true
+
+pub record IsWellFormedObject (database : Database) (object : Object) : Type 0 where
+  pub named : is_name object.name ≡ true
+  pub in_schema : is_name object.schema ≡ true
+  pub head : HasItsHead object
+  pub settings : HasItsSettings object.kind object.settings
+  pub shape : HasItsShape object object.kind
+  pub table : HasItsTable database object object.kind
+  pub rows : HasGoodRowsWhere database object object.kind
+  pub needs : All IsNamed object.needs
+  pub rank : object.rank < 2 ^ 32
+
+pub record IsWellFormed (database : Database) : Type 0 where
+  pub objects : All (IsWellFormedObject database) database.objects
+
+-- a byte from the space to the tilde
+abbrev pub is_visible : ℕ → Bool
+is_visible byte = nat_le 32 byte && nat_le byte 126
+
+-- a position of the binary log can be written on lines: it has a file, the bytes of its file and of its GTID set are visible, and its offset has 64 bits
+abbrev pub can_be_written : Position → Bool
+can_be_written position = not (is_empty position.file) && (list_all is_visible position.file && (list_all is_visible position.gtid && nat_lt position.offset (2 ^ 64)))
+
+abbrev pub HasGoodMark : Transaction → Type 0
+HasGoodMark one = IfSome one.mark (λ position. can_be_written position ≡ true)
+
+-- the history ends in a well-formed database, and its marks can be written
+pub record IsSound (history : List Transaction) : Type 0 where
+  pub database : Database
+  pub stands : db history ≡ Some database
+  pub well_formed : IsWellFormed database
+  pub marks : All HasGoodMark history
