@@ -1,0 +1,17 @@
+pub mod Worked
+pub mod Bags
+pub mod Soundness
+pub mod Answering
+pub mod Serving
+pub mod Changes
+pub mod Inserting
+pub mod Commanding
+pub mod Rises
+pub mod Reading
+pub mod Exchanging
+pub mod Returning
+pub mod SideBySide
+pub mod Linking
+pub mod Counting
+pub mod Triggering
+pub mod Progressing

@@ -1,0 +1,5 @@
+use Rattle.honest_rows.proofs.Answering.{above}
+use Rattle.honest_rows.proofs.answered.rows_above_a_bound_come.Goals as goal
+
+pub returns : goal.returns
+returns c = above

@@ -1,0 +1,10 @@
+pub mod Worked
+pub mod Databases
+pub mod Answered
+pub mod Effects
+pub mod Catalogue
+pub mod Exchanges
+pub mod Sites
+pub mod Links
+pub mod Triggers
+pub mod Progress

@@ -1,0 +1,96 @@
+-- The schema, the table, its rows and the history that the examples speak of.
+use Rattle.std.specs.Prelude.{ℕ, false, List, [], ◌∷◌, ◌++◌, Some, None, codes, map}
+use Rattle.object_texts.specs.declared.head.Kind.TheVariants.{Schema, Table}
+use Rattle.object_texts.specs.declared.shape.Column.{Column}
+use Rattle.server_model.specs.declared.data.Change.{Change}
+use Rattle.server_model.specs.declared.data.Change.TheVariants.{Make, Put}
+use Rattle.server_model.specs.declared.data.Database.{Database}
+use Rattle.server_model.specs.declared.data.Object.{Object}
+use Rattle.server_model.specs.declared.data.Position.{Position}
+use Rattle.server_model.specs.declared.data.TableRows.{TableRows}
+use Rattle.server_model.specs.declared.data.Transaction.{Transaction}
+use Rattle.sql_literals.specs.declared.cell.Cell.{Cell}
+use Rattle.sql_literals.specs.declared.cell.Cell.TheVariants.{Null, Value}
+
+-- the names of the schema and of its table
+abbrev pub schema : List ℕ
+schema = codes "s"
+
+abbrev pub table : List ℕ
+table = codes "t"
+
+-- the texts that make them
+abbrev pub schema_text : List ℕ
+schema_text = codes "CREATE DATABASE `s`"
+
+abbrev pub table_text : List ℕ
+table_text = codes "CREATE TABLE `t` (`id` int NOT NULL, `a` varchar(9), PRIMARY KEY (`id`)) ENGINE=InnoDB"
+
+-- the table's columns: the key `id`, and `a`
+abbrev pub id : Column
+id = record { name = codes "id"; data_type = codes "int"; unsigned = false; generated = false }
+
+abbrev pub a : Column
+a = record { name = codes "a"; data_type = codes "varchar"; unsigned = false; generated = false }
+
+abbrev pub the_schema : Object
+the_schema = record { kind = Schema; schema = schema; name = schema; text = schema_text; settings = None; columns = []; key = None; rank = 0; needs = [] }
+
+abbrev pub the_table : Object
+the_table = record { kind = Table; schema = schema; name = table; text = table_text; settings = None; columns = id ∷ a ∷ []; key = Some 0; rank = 0; needs = [] }
+
+-- a row of the table: the key, as it is spelled, and the other cell
+abbrev pub row : List ℕ → Cell → List Cell
+row key cell = Value key ∷ cell ∷ []
+
+-- (1,'a') and (2,NULL)
+abbrev pub one : List Cell
+one = row (codes "1") (Value (codes "a"))
+
+abbrev pub two : List Cell
+two = row (codes "2") Null
+
+-- (3,'c')
+abbrev pub three : List Cell
+three = row (codes "3") (Value (codes "c"))
+
+-- (1,'b'), which has the key of another row
+abbrev pub one_again : List Cell
+one_again = row (codes "1") (Value (codes "b"))
+
+-- a transaction behind which no position is known
+abbrev pub unmarked : List Change → Transaction
+unmarked changes = record { changes = changes; mark = None }
+
+-- and one behind which this one is
+abbrev pub marked : Position → List Change → Transaction
+marked position changes = record { changes = changes; mark = Some position }
+
+-- a row is put into the table
+abbrev pub put : List Cell → Change
+put cells = Put schema table cells
+
+abbrev pub position : Position
+position = record { file = codes "b.1"; offset = 157; gtid = [] }
+
+-- the schema is made, and then the table
+abbrev pub schema_alone : List Transaction
+schema_alone = unmarked (Make the_schema ∷ []) ∷ []
+
+abbrev pub no_rows : List Transaction
+no_rows = schema_alone ++ unmarked (Make the_table ∷ []) ∷ []
+
+-- Then the first two rows are put into it, and the position behind them is known.
+abbrev pub history : List Transaction
+history = no_rows ++ marked position (put one ∷ put two ∷ []) ∷ []
+
+abbrev pub of_table : List Cell → TableRows
+of_table cells = record { table = record { schema = schema; name = table }; rows = cells ∷ [] }
+
+-- the schema and the table, with these rows
+abbrev pub with_rows : List (List Cell) → Database
+with_rows rows = record { objects = the_schema ∷ the_table ∷ []; rows = map of_table rows }
+
+-- the database behind the history
+abbrev pub database : Database
+database = with_rows (one ∷ two ∷ [])

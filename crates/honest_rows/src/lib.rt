@@ -1,0 +1,49 @@
+//! Worked examples of an honest server: of each of its relations a state that it allows, and one that it
+//! refuses. Nothing here runs: the contracts are the examples.
+#![tactic(auto)]
+
+mod answered;
+mod catalogue;
+mod databases;
+mod effects;
+mod exchanges;
+mod links;
+mod progress;
+mod sites;
+mod triggers;
+
+pub use answered::{
+    a_table_is_told_with_its_engine, a_text_is_shown, all_rows_come,
+    columns_are_asked_for_in_order, columns_are_told_with_their_types, each_schema_is_told,
+    keys_are_skipped, no_position_is_shown, no_triggers_are_told, rows_above_a_bound_come,
+    rows_come_in_the_order_of_the_key, the_key_is_told, the_last_position_is_shown,
+};
+pub use catalogue::{
+    a_counter_rises, a_number_at_the_counter_raises_it, a_number_is_under_its_counter,
+    rows_and_counters_keep_the_catalogue,
+};
+pub use databases::{
+    a_key_is_an_integer, a_position_has_a_file, no_two_rows_have_one_key,
+    the_history_makes_the_database,
+};
+pub use effects::{
+    a_commit_waits_for_the_read_lock, a_rollback_drops_the_transaction,
+    a_schema_is_used_where_it_is_there, a_select_shows_the_snapshot,
+    a_snapshot_shows_what_was_seen, a_table_is_made_in_the_current_schema,
+    an_err_breaks_off_an_answer, an_insert_is_committed_at_once, the_backup_lock_stops_a_create,
+};
+pub use exchanges::{
+    a_command_is_answered_by_one_message, a_commit_is_answered_by_an_ok, a_login_is_taken,
+    a_query_is_answered_by_its_rows, a_quit_isnt_answered,
+};
+pub use links::{
+    a_failure_loses_nothing_by_halves, a_link_has_seen_its_own, bytes_are_received,
+    the_answer_waits,
+};
+pub use progress::the_progress_is_kept;
+pub use sites::{
+    a_grant_comes_first, a_new_link_has_seen_the_history, a_new_link_is_greeted,
+    connecting_leaves_the_history, grants_are_prefixes_of_one_list, links_put_different_keys,
+    the_history_is_told_once_all_are_back, two_links_side_by_side,
+};
+pub use triggers::{a_trigger_is_made_on_its_table, a_trigger_is_told, a_trigger_may_put_more};
