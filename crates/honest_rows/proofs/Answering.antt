@@ -9,18 +9,22 @@ use Rattle.server_model.specs.Bag.{IsSameBag, count_of}
 use Rattle.server_model.specs.Fold.{rows_of}
 use Rattle.sql_literals.specs.declared.cell.Cell.{Cell}
 use Rattle.sql_literals.specs.declared.cell.Cell.TheVariants.{Value}
-use Rattle.honest_server.specs.Answer.{IsColumnRow, everything, holds, is_inside, keys_rise, only_cell}
+use Rattle.honest_server.specs.Answer.{HasKey, IsColumnRow, everything, holds, is_inside, keys_rise, only_cell}
 use Rattle.honest_server.specs.Columns.{integer_at}
-use Rattle.honest_rows.specs.Answered.{column_row, key, told, AllRowsCome, ATableIsToldWithItsEngine, ATextIsShown, ColumnsAreAskedForInOrder, ColumnsAreToldWithTheirTypes, EachSchemaIsTold, KeysAreSkipped, NoPositionIsShown, NoTriggersAreTold, RowsAboveABoundCome, RowsComeInTheOrderOfTheKey, TheKeyIsTold, TheLastPositionIsShown}
+use Rattle.honest_rows.specs.Answered.{column_row, key, told, AllRowsCome, ATableIsToldWithItsEngine, ATextIsShown, ColumnsAreAskedForInOrder, ColumnsAreToldWithTheirTypes, EachSchemaIsTold, KeysAreSkipped, NoPositionIsShown, NoTriggersAreTold, RowsInsideTheBoundsCome, RowsComeInTheOrderOfTheKey, TheKeyIsTold, TheLastPositionIsShown}
 use Rattle.honest_rows.proofs.Bags.{first_of_two, other_order, same_rows, some_row}
 use Rattle.honest_rows.specs.Worked.{id, one, schema, the_table, two}
+
+-- the table's key is its first column
+abbrev by_id : HasKey the_table key
+by_id = record { index = 0; column = id; key_is = refl; column_is = refl; name = refl }
 
 pub by_key : RowsComeInTheOrderOfTheKey
 unfolding rows_of
 by_key = record {
   allowed = record {
     all_columns = refl;
-    has_key = record { index = 0; column = _; key_is = refl; column_is = refl; name = refl };
+    has_key = by_id;
     in_order = record { same = same_rows _; rise = refl };
   };
   refused = λ answer. never answer.has_key.index answer.has_key.key_is answer.in_order.rise;
@@ -29,14 +33,12 @@ by_key = record {
     never : (index : ℕ) → the_table.key ≡ Some index → keys_rise (map (integer_at the_table.columns index) (two ∷ one ∷ [])) ≡ true → ⊥
     never index is_key rise = let same : index ≡ 0 = cc in false≢true (subst (λ index. keys_rise (map (integer_at the_table.columns index) (two ∷ one ∷ [])) ≡ true) same rise)
 
-pub above : RowsAboveABoundCome
+pub above : RowsInsideTheBoundsCome
 unfolding rows_of count_of
 above = record {
-  allowed = record {
-    all_columns = refl;
-    has_key = record { index = 0; column = _; key_is = refl; column_is = refl; name = refl };
-    in_order = record { same = same_rows _; rise = refl };
-  };
+  above = record { all_columns = refl; has_key = by_id; in_order = record { same = same_rows _; rise = refl } };
+  up_to = record { all_columns = refl; has_key = by_id; in_order = record { same = same_rows _; rise = refl } };
+  between = record { all_columns = refl; has_key = by_id; in_order = record { same = same_rows _; rise = refl } };
   refused = λ answer. never answer.has_key.index answer.has_key.key_is answer.in_order.same;
 }
   where
@@ -54,17 +56,18 @@ pub skipped : KeysAreSkipped
 unfolding rows_of
 skipped = record {
   allowed = record {
-    has_key = record { index = 0; column = _; key_is = refl; column_is = refl; name = refl };
+    has_key = by_id;
     whole = one ∷ two ∷ [];
     in_order = record { same = same_rows _; rise = refl };
     rows_are = refl;
   };
   none_left = record {
-    has_key = record { index = 0; column = _; key_is = refl; column_is = refl; name = refl };
+    has_key = by_id;
     whole = one ∷ two ∷ [];
     in_order = record { same = same_rows _; rise = refl };
     rows_are = refl;
   };
+  above = record { has_key = by_id; whole = two ∷ []; in_order = record { same = same_rows _; rise = refl }; rows_are = refl };
   refused = λ answer. never answer.has_key.index answer.has_key.key_is answer.whole answer.in_order.same answer.in_order.rise answer.rows_are;
 }
   where

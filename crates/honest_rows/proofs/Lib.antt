@@ -15,3 +15,4 @@ pub mod Linking
 pub mod Counting
 pub mod Triggering
 pub mod Progressing
+pub mod Setting

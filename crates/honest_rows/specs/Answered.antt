@@ -3,7 +3,7 @@ use Rattle.std.specs.Prelude.{ℕ, List, [], ◌∷◌, ◌++◌, codes, pos}
 use Rattle.server_model.specs.Fold.{mark}
 use Rattle.sql_literals.specs.declared.cell.Cell.{Cell}
 use Rattle.sql_literals.specs.declared.cell.Cell.TheVariants.{Null, Value}
-use Rattle.sql_statements.specs.declared.query.Query.TheVariants.{MasterStatus, Schemas, Tables, Columns, PrimaryKey, Triggers, CreateTable, Key, Rows, RowsByKey, RowsAbove}
+use Rattle.sql_statements.specs.declared.query.Query.TheVariants.{MasterStatus, Schemas, Tables, Columns, PrimaryKey, Triggers, CreateTable, Key, KeyAbove, Rows, RowsByKey, RowsAbove, RowsUpTo, RowsBetween}
 use Rattle.honest_server.specs.Answer.{Answers, ShowsMark}
 use Rattle.honest_rows.specs.Worked.{database, history, one, schema, table, table_text, two, unmarked}
 
@@ -22,9 +22,11 @@ pub record RowsComeInTheOrderOfTheKey : Type 0 where
   pub allowed : Answers database (RowsByKey columns schema table key) (one ∷ two ∷ [])
   pub refused : Answers database (RowsByKey columns schema table key) (two ∷ one ∷ []) → ⊥
 
--- only those above a bound come where there is one
-pub record RowsAboveABoundCome : Type 0 where
-  pub allowed : Answers database (RowsAbove columns schema table key (pos 1)) (two ∷ [])
+-- only those inside the bounds come: above the one, and up to the other
+pub record RowsInsideTheBoundsCome : Type 0 where
+  pub above : Answers database (RowsAbove columns schema table key (pos 1)) (two ∷ [])
+  pub up_to : Answers database (RowsUpTo columns schema table key (pos 1)) (one ∷ [])
+  pub between : Answers database (RowsBetween columns schema table key (pos 0) (pos 1)) (one ∷ [])
   pub refused : Answers database (RowsAbove columns schema table key (pos 1)) (one ∷ two ∷ []) → ⊥
 
 -- rows without an order come in any order, and all of them do
@@ -36,10 +38,11 @@ pub record AllRowsCome : Type 0 where
 pub record ColumnsAreAskedForInOrder : Type 0 where
   pub refused : (rows : List (List Cell)) → Answers database (Rows (codes "a" ∷ key ∷ []) schema table) rows → ⊥
 
--- the first key was skipped, or both were
+-- the first key was skipped, or both were; or it isn't above the bound
 pub record KeysAreSkipped : Type 0 where
   pub allowed : Answers database (Key key schema table 1) ((Value (codes "2") ∷ []) ∷ [])
   pub none_left : Answers database (Key key schema table 2) []
+  pub above : Answers database (KeyAbove key schema table (pos 1) 0) ((Value (codes "2") ∷ []) ∷ [])
   pub refused : Answers database (Key key schema table 1) ((Value (codes "1") ∷ []) ∷ []) → ⊥
 
 -- the schema's table is told with its engine

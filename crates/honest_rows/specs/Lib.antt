@@ -8,3 +8,4 @@ pub mod Sites
 pub mod Links
 pub mod Triggers
 pub mod Progress
+pub mod Routines

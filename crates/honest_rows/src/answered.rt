@@ -1,14 +1,14 @@
 // Answers to queries over the worked database. Nothing here runs: the contracts are the examples.
-ghost use Rattle.honest_rows.specs.Answered.{ATableIsToldWithItsEngine, ATextIsShown, AllRowsCome, ColumnsAreAskedForInOrder, ColumnsAreToldWithTheirTypes, EachSchemaIsTold, KeysAreSkipped, NoPositionIsShown, NoTriggersAreTold, RowsAboveABoundCome, RowsComeInTheOrderOfTheKey, TheKeyIsTold, TheLastPositionIsShown};
+ghost use Rattle.honest_rows.specs.Answered.{ATableIsToldWithItsEngine, ATextIsShown, AllRowsCome, ColumnsAreAskedForInOrder, ColumnsAreToldWithTheirTypes, EachSchemaIsTold, KeysAreSkipped, NoPositionIsShown, NoTriggersAreTold, RowsInsideTheBoundsCome, RowsComeInTheOrderOfTheKey, TheKeyIsTold, TheLastPositionIsShown};
 
 /// Rows that are asked for by key come in its order, and in no other.
 pub fn rows_come_in_the_order_of_the_key()
     ensures { RowsComeInTheOrderOfTheKey }
 {}
 
-/// Of rows above a bound those at the bound don't come.
-pub fn rows_above_a_bound_come()
-    ensures { RowsAboveABoundCome }
+/// Of rows between bounds those above the one come, and those up to the other.
+pub fn rows_inside_the_bounds_come()
+    ensures { RowsInsideTheBoundsCome }
 {}
 
 /// Rows without an order come in any, and none is left out.

@@ -1,5 +1,5 @@
-//! Worked examples of an honest server: of each of its relations a state that it allows, and one that it
-//! refuses. Nothing here runs: the contracts are the examples.
+//! Worked examples of an honest server: states that its relations allow, and others that they refuse.
+//! Nothing here runs: the contracts are the examples.
 #![tactic(auto)]
 
 mod answered;
@@ -9,14 +9,16 @@ mod effects;
 mod exchanges;
 mod links;
 mod progress;
+mod routines;
 mod sites;
 mod triggers;
 
 pub use answered::{
     a_table_is_told_with_its_engine, a_text_is_shown, all_rows_come,
     columns_are_asked_for_in_order, columns_are_told_with_their_types, each_schema_is_told,
-    keys_are_skipped, no_position_is_shown, no_triggers_are_told, rows_above_a_bound_come,
-    rows_come_in_the_order_of_the_key, the_key_is_told, the_last_position_is_shown,
+    keys_are_skipped, no_position_is_shown, no_triggers_are_told,
+    rows_come_in_the_order_of_the_key, rows_inside_the_bounds_come, the_key_is_told,
+    the_last_position_is_shown,
 };
 pub use catalogue::{
     a_counter_rises, a_number_at_the_counter_raises_it, a_number_is_under_its_counter,
@@ -41,6 +43,7 @@ pub use links::{
     the_answer_waits,
 };
 pub use progress::the_progress_is_kept;
+pub use routines::{a_routine_is_shown_with_its_settings, settings_are_of_the_next_object};
 pub use sites::{
     a_grant_comes_first, a_new_link_has_seen_the_history, a_new_link_is_greeted,
     connecting_leaves_the_history, grants_are_prefixes_of_one_list, links_put_different_keys,
