@@ -17,10 +17,10 @@ pub fn packets_are_prefix_free()
     ensures { PacketsArePrefixFree }
 {}
 
-/// A law: bytes begin with a whole message within the limit, or a packet has another id than it
-/// should have, or the message is announced past the limit, or bytes of it are missing, and never
-/// two of these. The ids, the length past the limit and the number of missing bytes are one each.
-/// Does nothing.
+/// A law: of these four no two hold of the front of some bytes: it is a whole message within the
+/// limit, a packet of it has another id than it should have, the message is announced past the
+/// limit, bytes of it are missing. The ids, the length past the limit and the number of missing
+/// bytes are one each. Does nothing.
 #[inline]
 #[tactic(auto, using(crate::proofs::Fronts::one_front))]
 pub fn a_front_is_one_thing()

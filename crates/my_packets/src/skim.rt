@@ -162,7 +162,8 @@ impl Skim {
 
     /// The first 1,024 bytes of the message, or all where there are fewer.
     pub fn kept(&self) -> &[u8]
-        ensures { (seq limit : ℕ) (fed message : List ℕ) → Skims seq limit fed self.now → fed ≡ packets seq message → result.now ≡ take 1024 message }
+        ensures value { result.now ≡ self.now.kept }
+        ensures message { (seq limit : ℕ) (fed message : List ℕ) → Skims seq limit fed self.now → fed ≡ packets seq message → result.now ≡ take 1024 message }
     {
         &self.kept[..self.kept_size]
     }
