@@ -11,7 +11,7 @@ use Rattle.sql_literals.specs.declared.cell.Cell.TheVariants.{Null, Value}
 use Rattle.server_model.specs.Agree.{Agree, HasSameObjects, comes_before, is_before, is_trigger, object_eq, settings_eq}
 use Rattle.server_model.specs.Bag.{IsSameBag, count_of}
 use Rattle.server_model.specs.Equal.{cell_eq, kind_eq, row_eq}
-use Rattle.server_model.specs.Fold.{is_of_table, rows_in, rows_of, table_of}
+use Rattle.server_model.specs.Fold.{is_need, is_of_table, rows_in, rows_of, table_of}
 use Rattle.server_model.specs.Members.{agrees, is_as_often, is_same, same_objects, same_order, same_pair, same_pairs, same_row, same_rows, same_table}
 use Rattle.server_model.specs.declared.data.Database.{Database}
 use Rattle.server_model.specs.declared.data.Object.{Object}
@@ -169,14 +169,13 @@ at_second : (one other : Database) (schema table first second : List ℕ) (x : O
     → is_before one schema table first second ≡ is_before other schema table first second
 at_second one other schema table first second x is_x y is_y same =
     let x1 = and_right (kind_eq x.kind Trigger) _ is_x in
-    let x2 = and_right (bytes_eq (table_of x.needs).schema schema) _ x1 in
-    let schema_is = bytes_are (table_of x.needs).schema schema (and_left _ _ x1) in
-    let table_is = bytes_are (table_of x.needs).name table (and_left _ _ x2) in
-    let first_is = bytes_are x.name first (and_right (bytes_eq (table_of x.needs).name table) _ x2) in
+    let on = and_left (is_need schema table (table_of x.needs)) _ x1 in
+    let schema_is = bytes_are (table_of x.needs).schema schema (and_left _ _ on) in
+    let table_is = bytes_are (table_of x.needs).name table (and_right (bytes_eq (table_of x.needs).schema schema) _ on) in
+    let first_is = bytes_are x.name first (and_right (is_need schema table (table_of x.needs)) _ x1) in
     let y0 = and_left (is_trigger schema table second y) (comes_before x y) is_y in
     let y1 = and_right (kind_eq y.kind Trigger) _ y0 in
-    let y2 = and_right (bytes_eq (table_of y.needs).schema schema) _ y1 in
-    let second_is = bytes_are y.name second (and_right (bytes_eq (table_of y.needs).name table) _ y2) in
+    let second_is = bytes_are y.name second (and_right (is_need schema table (table_of y.needs)) _ y1) in
     let e = same_is (is_before one (table_of x.needs).schema (table_of x.needs).name x.name y.name) (is_before other (table_of x.needs).schema (table_of x.needs).name x.name y.name) (where_not (kind_eq y.kind Trigger) _ (and_left _ _ y0) same) in
     rw (← schema_is, ← table_is, ← first_is, ← second_is) e
 

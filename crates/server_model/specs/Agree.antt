@@ -1,10 +1,12 @@
 -- When two databases agree.
-use Rattle.std.specs.Prelude.{ℕ, ◌≡◌, ◌==◌, ◌&&◌, ◌||◌, nat_lt, Bool, true, false, List, [], ◌∷◌, count_by, Option, Some, None, bytes_eq}
+use Rattle.std.specs.Prelude.{ℕ, ◌≡◌, ◌==◌, ◌&&◌, ◌||◌, nat_lt, Bool, true, false, List, count_by, Option, Some, None, bytes_eq}
+use Rattle.std.specs.Cmp.Lexicographic.{slice_cmp}
 use Rattle.std.specs.List.{list_any}
+use Rattle.std.specs.Ordering.{is_lt, nat_cmp}
 use Rattle.object_texts.specs.declared.head.Kind.TheVariants.{Trigger}
 use Rattle.server_model.specs.Bag.{IsSameBag}
 use Rattle.server_model.specs.Equal.{kind_eq}
-use Rattle.server_model.specs.Fold.{rows_of, table_of}
+use Rattle.server_model.specs.Fold.{is_need, rows_of, table_of}
 use Rattle.server_model.specs.declared.data.Database.{Database}
 use Rattle.server_model.specs.declared.data.Object.{Object}
 use Rattle.server_model.specs.declared.data.Settings.{Settings}
@@ -26,18 +28,11 @@ pub record HasSameObjects (one other : Database) : Type 0 where
 -- a trigger of this name on a table
 abbrev pub is_trigger : List ℕ → List ℕ → List ℕ → Object → Bool
 is_trigger schema table name object =
-    kind_eq object.kind Trigger && (bytes_eq (table_of object.needs).schema schema && (bytes_eq (table_of object.needs).name table && bytes_eq object.name name))
+    kind_eq object.kind Trigger && (is_need schema table (table_of object.needs) && bytes_eq object.name name)
 
--- one name comes before another: at the first byte that differs its byte is less, or it ends there
-abbrev pub name_lt : List ℕ → List ℕ → Bool
-name_lt [] [] = false
-name_lt [] (other ∷ others) = true
-name_lt (one ∷ ones) [] = false
-name_lt (one ∷ ones) (other ∷ others) = nat_lt one other || (one == other && name_lt ones others)
-
--- one object comes before another: its rank is less, or with one rank its name
+-- one object comes before another: its rank is less, or with one rank its name, by its bytes
 abbrev pub comes_before : Object → Object → Bool
-comes_before one other = nat_lt one.rank other.rank || (one.rank == other.rank && name_lt one.name other.name)
+comes_before one other = nat_lt one.rank other.rank || (one.rank == other.rank && is_lt (slice_cmp nat_cmp one.name other.name))
 
 -- of a table's triggers, the one of the first name comes before the one of the second
 unfoldable pub is_before : Database → List ℕ → List ℕ → List ℕ → List ℕ → Bool

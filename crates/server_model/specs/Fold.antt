@@ -23,6 +23,14 @@ is_object kind schema name object = kind_eq object.kind kind && (bytes_eq object
 unfoldable pub has_object : Database → Kind → List ℕ → List ℕ → Bool
 has_object database kind schema name = list_any (is_object kind schema name) database.objects
 
+-- the schema of this name is there
+abbrev pub has_schema : Database → List ℕ → Bool
+has_schema database schema = has_object database Schema schema schema
+
+-- the need is of this schema and name
+abbrev pub is_need : List ℕ → List ℕ → Need → Bool
+is_need schema name need = bytes_eq need.schema schema && bytes_eq need.name name
+
 -- a trigger's table: the first of its needs, or the empty schema and name
 abbrev pub table_of : List Need → Need
 table_of [] = record { schema = []; name = [] }
@@ -31,8 +39,8 @@ table_of (need ∷ needs) = need
 -- what an object of this kind stands in or on is there: a schema stands in nothing, a trigger in its schema and on its table
 abbrev pub has_place : Database → Object → Kind → Bool
 has_place database object Schema = true
-has_place database object Trigger = has_object database Schema object.schema object.schema && has_object database Table (table_of object.needs).schema (table_of object.needs).name
-has_place database object kind = has_object database Schema object.schema object.schema
+has_place database object Trigger = has_schema database object.schema && has_object database Table (table_of object.needs).schema (table_of object.needs).name
+has_place database object kind = has_schema database object.schema
 
 -- the object may be made
 unfoldable pub may_make : Database → Object → Bool
@@ -62,7 +70,7 @@ fits_row database schema name row = list_any (takes_row schema name (length row)
 
 -- the rows are those of this table
 abbrev pub is_of_table : List ℕ → List ℕ → TableRows → Bool
-is_of_table schema name rows = bytes_eq rows.table.schema schema && bytes_eq rows.table.name name
+is_of_table schema name rows = is_need schema name rows.table
 
 abbrev pub rows_in : List ℕ → List ℕ → List TableRows → List (List Cell)
 rows_in schema name [] = []
@@ -126,7 +134,7 @@ empty_db = record { objects = []; rows = [] }
 abbrev pub db : List Transaction → Option Database
 db history = more_db empty_db history
 
--- the mark of the last transaction; None where there is none
+-- the mark of the last transaction; None where that has none, or there is no transaction
 abbrev pub mark : List Transaction → Option Position
 mark [] = None
 mark (one ∷ []) = one.mark

@@ -3,10 +3,9 @@ use Rattle.std.specs.Prelude.{ℕ, ◌&&◌, ◌||◌, not, Bool, true, false, L
 use Rattle.std.specs.List.{list_any, filter}
 use Rattle.object_texts.specs.declared.head.Kind.{Kind}
 use Rattle.object_texts.specs.declared.head.Kind.TheVariants.{Schema, Table, Procedure, Function, View, Trigger}
-use Rattle.server_model.specs.Fold.{has_object, table_of}
+use Rattle.server_model.specs.Fold.{has_object, has_schema, is_need, table_of}
 use Rattle.server_model.specs.declared.choice.Choice.{Choice}
 use Rattle.server_model.specs.declared.data.Database.{Database}
-use Rattle.server_model.specs.declared.data.Need.{Need}
 use Rattle.server_model.specs.declared.data.Object.{Object}
 use Rattle.server_model.specs.declared.data.TableRows.{TableRows}
 
@@ -25,9 +24,6 @@ is_empty (member ∷ members) = false
 abbrev pub names_or_any : List (List ℕ) → List ℕ → Bool
 names_or_any names name = is_empty names || list_any (bytes_eq name) names
 
-abbrev pub is_need : List ℕ → List ℕ → Need → Bool
-is_need schema name need = bytes_eq need.schema schema && bytes_eq need.name name
-
 -- the schema isn't reserved, and is named where schemas or tables are
 abbrev pub selects_schema : Choice → List ℕ → Bool
 selects_schema choice schema =
@@ -37,13 +33,9 @@ selects_schema choice schema =
 abbrev pub selects_table : Choice → List ℕ → List ℕ → Bool
 selects_table choice schema name = selects_schema choice schema && (is_empty choice.tables || list_any (is_need schema name) choice.tables)
 
--- its schema is there
-abbrev pub is_in : Database → List ℕ → Bool
-is_in database schema = has_object database Schema schema schema
-
 -- a selected table that is there
 abbrev pub has_selected_table : Choice → Database → List ℕ → List ℕ → Bool
-has_selected_table choice database schema name = selects_table choice schema name && (is_in database schema && has_object database Table schema name)
+has_selected_table choice database schema name = selects_table choice schema name && (has_schema database schema && has_object database Table schema name)
 
 -- an object of this kind is selected: a routine with its schema, a trigger with its table
 abbrev pub selects_kind : Choice → Database → Object → Kind → Bool
@@ -55,7 +47,7 @@ selects_kind choice database object Function = choice.routines && selects_schema
 selects_kind choice database object Trigger = choice.triggers && has_selected_table choice database (table_of object.needs).schema (table_of object.needs).name
 
 abbrev pub selects_object : Choice → Database → Object → Bool
-selects_object choice database object = not choice.no_schemas && (is_in database object.schema && selects_kind choice database object object.kind)
+selects_object choice database object = not choice.no_schemas && (has_schema database object.schema && selects_kind choice database object object.kind)
 
 abbrev pub selects_rows : Choice → Database → TableRows → Bool
 selects_rows choice database rows = not choice.no_data && has_selected_table choice database rows.table.schema rows.table.name

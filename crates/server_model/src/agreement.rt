@@ -1,21 +1,21 @@
 // Whether two databases agree.
-ghost use Rattle.std.specs.Prelude.{◌≡◌, ◌↔◌, ◌+◌, ◌&&◌, [], IsTrue, count_by, bytes_eq, if◌then◌else◌};
+ghost use Rattle.std.specs.Prelude.{◌≡◌, ◌↔◌, ◌+◌, ◌&&◌, IsTrue, count_by, bytes_eq, if◌then◌else◌};
 ghost use Rattle.std.specs.List.{list_all, list_any};
-ghost use Rattle.server_model.specs.Agree.{Agree, comes_before, is_before, is_trigger, name_lt, object_eq, settings_eq};
+ghost use Rattle.server_model.specs.Agree.{Agree, comes_before, is_before, is_trigger, object_eq, settings_eq};
 ghost use Rattle.server_model.specs.Bag.{count_of};
-ghost use Rattle.server_model.specs.Fold.{is_of_table, rows_in, rows_of, table_of};
+ghost use Rattle.server_model.specs.Fold.{is_need, is_of_table, rows_in, rows_of, table_of};
 ghost use Rattle.server_model.specs.Members.{agrees, is_as_often, is_same, same_objects, same_order, same_pair, same_pairs, same_row, same_rows, same_table};
 
 use crate::data::{Database, Need, Object, Settings, TableRows};
 use crate::equal::{are_bytes, is_kind, is_row};
-use crate::find::is_of_table;
+use crate::find::{is_of_table, table_of};
 use crate::rows::CellList;
 use object_texts::Kind;
 use sql_literals::Cell;
 
 /// Whether the two hold the same objects, each table's triggers in the same order, and in each table
-/// the same rows, each as often. Takes no memory. Its time grows with the square of the number of
-/// objects, and with that of rows.
+/// the same rows, each as often. Takes no memory. Its time grows with the squares of the numbers of
+/// objects and of rows, and, where most objects are triggers, with the cube of their number.
 pub fn agree(one: &Database, other: &Database) -> bool
     ensures { IsTrue result ↔ Agree one.now other.now }
 {
@@ -133,22 +133,14 @@ fn same_pair(one: &Database, other: &Database, first: &Object, second: &Object) 
 fn is_before_there(database: &Database, first: &Object, second: &Object) -> bool
     ensures { result ≡ is_before database.now (table_of first.now.needs).schema (table_of first.now.needs).name first.now.name second.now.name }
 {
-    match first.needs.as_slice() {
-        [] => is_before(
-            database,
-            b"",
-            b"",
-            first.name.as_slice(),
-            second.name.as_slice(),
-        ),
-        [table, ..] => is_before(
-            database,
-            table.schema.as_slice(),
-            table.name.as_slice(),
-            first.name.as_slice(),
-            second.name.as_slice(),
-        ),
-    }
+    let (schema, table) = table_of(first.needs.as_slice());
+    is_before(
+        database,
+        schema,
+        table,
+        first.name.as_slice(),
+        second.name.as_slice(),
+    )
 }
 
 #[tactic(auto, unfolding(crate::specs::Agree::is_before))]
@@ -200,53 +192,16 @@ fn is_trigger(schema: &[u8], table: &[u8], name: &[u8], object: &Object) -> bool
 }
 
 fn is_on(schema: &[u8], table: &[u8], needs: &[Need]) -> bool
-    ensures { result ≡ (bytes_eq (table_of needs.now).schema schema.now && bytes_eq (table_of needs.now).name table.now) }
+    ensures { result ≡ is_need schema.now table.now (table_of needs.now) }
 {
-    match needs {
-        [] => are_bytes(b"", schema) && are_bytes(b"", table),
-        [need, ..] => {
-            are_bytes(need.schema.as_slice(), schema) && are_bytes(need.name.as_slice(), table)
-        }
-    }
+    let (of_schema, of_table) = table_of(needs);
+    are_bytes(of_schema, schema) && are_bytes(of_table, table)
 }
 
 fn comes_before(one: &Object, other: &Object) -> bool
     ensures { result ≡ comes_before one.now other.now }
 {
-    one.rank < other.rank
-        || (one.rank == other.rank && name_lt(one.name.as_slice(), other.name.as_slice()))
-}
-
-fn name_lt(one: &[u8], other: &[u8]) -> bool
-    ensures { result ≡ name_lt one.now other.now }
-{
-    let mut left = one;
-    let mut right = other;
-    'bytes: while let [byte, bytes @ ..] = left {
-        match right {
-            [] => return false,
-            [facing, others @ ..] => {
-                if *byte < *facing {
-                    return true;
-                }
-                if *facing < *byte {
-                    return false;
-                }
-                left = bytes;
-                right = others;
-            }
-        }
-    }
-    is_not_empty(right)
-}
-
-fn is_not_empty(bytes: &[u8]) -> bool
-    ensures { result ≡ name_lt [] bytes.now }
-{
-    match bytes {
-        [] => false,
-        [_, ..] => true,
-    }
+    one.rank < other.rank || (one.rank == other.rank && one.name < other.name)
 }
 
 fn same_rows(one: &Database, other: &Database) -> bool

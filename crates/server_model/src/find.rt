@@ -1,7 +1,6 @@
 // What is in a database.
 ghost use Rattle.std.specs.Prelude.{◌≡◌};
-ghost use Rattle.object_texts.specs.declared.head.Kind.TheVariants.{Table};
-ghost use Rattle.server_model.specs.Fold.{has_object, is_object, is_of_table, table_of};
+ghost use Rattle.server_model.specs.Fold.{has_object, has_schema, is_need, is_object, is_of_table, table_of};
 
 use crate::data::{Database, Need, Object, TableRows};
 use crate::equal::{are_bytes, is_kind};
@@ -25,23 +24,31 @@ pub(crate) fn has_object(database: &Database, kind: Kind, schema: &[u8], name: &
         .any(|object| is_object(kind, schema, name, object))
 }
 
-// The table that a trigger needs is there.
-pub(crate) fn has_table_of(database: &Database, needs: &[Need]) -> bool
-    ensures { result ≡ has_object database.now Table (table_of needs.now).schema (table_of needs.now).name }
+pub(crate) fn has_schema(database: &Database, schema: &[u8]) -> bool
+    ensures { result ≡ has_schema database.now schema.now }
+{
+    has_object(database, Kind::Schema, schema, schema)
+}
+
+pub(crate) fn is_need(schema: &[u8], name: &[u8], need: &Need) -> bool
+    ensures { result ≡ is_need schema.now name.now need.now }
+{
+    are_bytes(need.schema.as_slice(), schema) && are_bytes(need.name.as_slice(), name)
+}
+
+// The schema and the name of a trigger's table: those of its first need, or empty ones.
+pub(crate) fn table_of(needs: &[Need]) -> (&[u8], &[u8])
+    ensures schema { result.0.now ≡ (table_of needs.now).schema }
+    ensures name { result.1.now ≡ (table_of needs.now).name }
 {
     match needs {
-        [] => has_object(database, Kind::Table, b"", b""),
-        [need, ..] => has_object(
-            database,
-            Kind::Table,
-            need.schema.as_slice(),
-            need.name.as_slice(),
-        ),
+        [] => (b"", b""),
+        [need, ..] => (need.schema.as_slice(), need.name.as_slice()),
     }
 }
 
 pub(crate) fn is_of_table(schema: &[u8], name: &[u8], rows: &TableRows) -> bool
     ensures { result ≡ is_of_table schema.now name.now rows.now }
 {
-    are_bytes(rows.table.schema.as_slice(), schema) && are_bytes(rows.table.name.as_slice(), name)
+    is_need(schema, name, &rows.table)
 }

@@ -1,14 +1,14 @@
 // The database after a history.
 ghost use Rattle.std.specs.Prelude.{◌≡◌, ◌++◌, IfOk, Some, None, filter, if◌then◌else◌, length, not};
 ghost use Rattle.std.specs.List.{list_any};
-ghost use Rattle.object_texts.specs.declared.head.Kind.TheVariants.{Schema, Table};
+ghost use Rattle.object_texts.specs.declared.head.Kind.TheVariants.{Table};
 ghost use Rattle.server_model.specs.declared.data.Change.TheVariants.{Make, Drop, Put, Remove};
 ghost use Rattle.server_model.specs.Equal.{kind_eq};
-ghost use Rattle.server_model.specs.Fold.{change_db, changes_db, db, fits_row, has_object, has_place, is_object, is_of_table, is_plain, may_drop, may_make, plain_count, stands_in, takes_row, without_first, without_row};
+ghost use Rattle.server_model.specs.Fold.{change_db, changes_db, db, fits_row, has_object, has_place, is_object, is_of_table, is_plain, may_drop, may_make, plain_count, stands_in, table_of, takes_row, without_first, without_row};
 
 use crate::data::{Change, Database, History, Need, Object, ObjectList, TableList, TableRows};
 use crate::equal::{are_bytes, is_kind, is_row};
-use crate::find::{has_object, has_table_of, is_object, is_of_table};
+use crate::find::{has_object, has_schema, is_object, is_of_table, table_of};
 use crate::lists::{append, push_if};
 use crate::rows::{CellList, RowList};
 use object_texts::{Column, Kind};
@@ -192,10 +192,12 @@ fn has_place(database: &Database, object: &Object) -> bool
     }
 }
 
-fn has_schema(database: &Database, schema: &[u8]) -> bool
-    ensures { result ≡ has_object database.now Schema schema.now schema.now }
+// The table that a trigger needs is there.
+fn has_table_of(database: &Database, needs: &[Need]) -> bool
+    ensures { result ≡ has_object database.now Table (table_of needs.now).schema (table_of needs.now).name }
 {
-    has_object(database, Kind::Schema, schema, schema)
+    let (schema, name) = table_of(needs);
+    has_object(database, Kind::Table, schema, name)
 }
 
 #[tactic(auto, unfolding(crate::specs::Fold::may_drop))]

@@ -1,13 +1,13 @@
 // What a choice selects of a database.
 ghost use Rattle.std.specs.Prelude.{◌≡◌, None, filter, ◌||◌, IfOk, bytes_eq};
 ghost use Rattle.std.specs.List.{list_any};
-ghost use Rattle.server_model.specs.Fold.{has_object, table_of};
-ghost use Rattle.server_model.specs.Select.{has_selected_table, is_empty, is_in, is_need, is_reserved, names_or_any, selected, selects_kind, selects_object, selects_rows, selects_schema, selects_table};
+ghost use Rattle.server_model.specs.Fold.{is_need, table_of};
+ghost use Rattle.server_model.specs.Select.{has_selected_table, is_empty, is_reserved, names_or_any, selected, selects_kind, selects_object, selects_rows, selects_schema, selects_table};
 
 use crate::choice::Choice;
 use crate::data::{Database, Need, Object, ObjectList, TableList, TableRows};
 use crate::equal::are_bytes;
-use crate::find::has_object;
+use crate::find::{has_object, has_schema, is_need, table_of};
 use crate::lists::push_if;
 use object_texts::Kind;
 use plain_data::{OutOfMemory, PlainList};
@@ -64,7 +64,7 @@ fn selects_object(choice: &Choice, database: &Database, object: &Object) -> bool
     ensures { result ≡ selects_object choice.now database.now object.now }
 {
     !choice.no_schemas
-        && is_in(database, object.schema.as_slice())
+        && has_schema(database, object.schema.as_slice())
         && selects_kind(choice, database, object)
 }
 
@@ -87,15 +87,8 @@ fn selects_kind(choice: &Choice, database: &Database, object: &Object) -> bool
 fn has_table_of(choice: &Choice, database: &Database, needs: &[Need]) -> bool
     ensures { result ≡ has_selected_table choice.now database.now (table_of needs.now).schema (table_of needs.now).name }
 {
-    match needs {
-        [] => has_table(choice, database, b"", b""),
-        [need, ..] => has_table(
-            choice,
-            database,
-            need.schema.as_slice(),
-            need.name.as_slice(),
-        ),
-    }
+    let (schema, name) = table_of(needs);
+    has_table(choice, database, schema, name)
 }
 
 fn selects_rows(choice: &Choice, database: &Database, rows: &TableRows) -> bool
@@ -114,14 +107,8 @@ fn has_table(choice: &Choice, database: &Database, schema: &[u8], name: &[u8]) -
     ensures { result ≡ has_selected_table choice.now database.now schema.now name.now }
 {
     selects_table(choice, schema, name)
-        && is_in(database, schema)
+        && has_schema(database, schema)
         && has_object(database, Kind::Table, schema, name)
-}
-
-fn is_in(database: &Database, schema: &[u8]) -> bool
-    ensures { result ≡ is_in database.now schema.now }
-{
-    has_object(database, Kind::Schema, schema, schema)
 }
 
 fn selects_table(choice: &Choice, schema: &[u8], name: &[u8]) -> bool
@@ -150,12 +137,6 @@ fn is_empty<T>(list: &[T]) -> bool
         [] => true,
         [_, ..] => false,
     }
-}
-
-fn is_need(schema: &[u8], name: &[u8], need: &Need) -> bool
-    ensures { result ≡ is_need schema.now name.now need.now }
-{
-    are_bytes(need.schema.as_slice(), schema) && are_bytes(need.name.as_slice(), name)
 }
 
 fn selects_schema(choice: &Choice, schema: &[u8]) -> bool
