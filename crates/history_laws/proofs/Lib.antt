@@ -1,0 +1,4 @@
+pub mod Apart
+pub mod Objects
+pub mod Rows
+pub mod Steps

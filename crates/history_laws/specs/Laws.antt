@@ -1,0 +1,92 @@
+-- Laws of histories and of their interleavings, of which the functions of src/laws.rt are the proofs.
+use Rattle.std.specs.Prelude.{ℕ, ◌≡◌, ◌≤◌, not, Bool, true, false, List, [], ◌∷◌, length, map, filter, All, Some}
+use Rattle.std.specs.List.{list_all}
+use Rattle.object_texts.specs.declared.head.Kind.{Kind}
+use Rattle.object_texts.specs.declared.head.Kind.TheVariants.{Schema}
+use Rattle.server_model.specs.Agree.{Agree}
+use Rattle.server_model.specs.Equal.{kind_eq}
+use Rattle.server_model.specs.Fold.{changes_db, db, has_schema, is_object, more_db, rows_of}
+use Rattle.server_model.specs.History.{Interleaves, TakesHead}
+use Rattle.server_model.specs.declared.data.Change.{Change}
+use Rattle.server_model.specs.declared.data.Change.TheVariants.{Make, Drop, Put, Remove}
+use Rattle.server_model.specs.declared.data.Database.{Database}
+use Rattle.server_model.specs.declared.data.Object.{Object}
+use Rattle.server_model.specs.declared.data.Transaction.{Transaction}
+
+-- the change puts or removes a row of a table that the test takes
+abbrev pub changes_row : (List ℕ → List ℕ → Bool) → Change → Bool
+changes_row takes (Make object) = false
+changes_row takes (Drop kind schema name) = false
+changes_row takes (Put schema name row) = takes schema name
+changes_row takes (Remove schema name row) = takes schema name
+
+-- the transactions change nothing but rows of such tables
+abbrev pub is_over : (List ℕ → List ℕ → Bool) → List Transaction → Bool
+is_over takes list = list_all (λ one. list_all (changes_row takes) one.changes) list
+
+-- a list of transactions, the tables whose rows it changes, by schema and name, and the database behind it alone
+pub record Share : Type 0 where
+  pub list : List Transaction
+  pub takes : List ℕ → List ℕ → Bool
+  pub behind : Database
+
+pub record IsShareOf (start : Database) (share : Share) : Type 0 where
+  pub over : is_over share.takes share.list ≡ true
+  pub fits : more_db start share.list ≡ Some share.behind
+
+-- no table's rows are changed by both
+abbrev pub IsApart : Share → Share → Type 0
+IsApart one other = (schema name : List ℕ) → one.takes schema name ≡ true → other.takes schema name ≡ false
+
+-- no table's rows are changed by two of the lists
+abbrev pub AreApart : List Share → Type 0
+AreApart [] = Unit {0}
+AreApart (one ∷ others) = All (IsApart one) others × AreApart others
+
+-- the table's rows are changed by none of them
+abbrev pub is_none_of : List Share → List ℕ → List ℕ → Bool
+is_none_of shares schema name = list_all (λ share. not (share.takes schema name)) shares
+
+-- the database behind an interleaving: in each table are the rows that its own list leaves, in the others those from before
+pub record IsBehind (start : Database) (shares : List Share) (last : Database) : Type 0 where
+  pub objects : last.objects ≡ start.objects
+  pub own : All (λ (share : Share). (schema name : List ℕ) → share.takes schema name ≡ true → rows_of last schema name ≡ rows_of share.behind schema name) shares
+  pub others : (schema name : List ℕ) → is_none_of shares schema name ≡ true → rows_of last schema name ≡ rows_of start schema name
+
+-- every interleaving of lists over different tables fits, and leaves in each table what its own list leaves there
+abbrev pub ListsOverDifferentTablesCommute : Type 0
+ListsOverDifferentTablesCommute = (start : Database) (shares : List Share) → All (IsShareOf start) shares → AreApart shares
+    → (whole : List Transaction) → Interleaves (map (λ (share : Share). share.list) shares) whole → (last : Database) × (more_db start whole ≡ Some last) × IsBehind start shares last
+
+-- so the databases behind any two of them agree
+abbrev pub InterleavingsAgree : Type 0
+InterleavingsAgree = (start : Database) (shares : List Share) → All (IsShareOf start) shares → AreApart shares
+    → (one other : List Transaction) → Interleaves (map (λ (share : Share). share.list) shares) one → Interleaves (map (λ (share : Share). share.list) shares) other
+    → (last next : Database) → more_db start one ≡ Some last → more_db start other ≡ Some next → Agree last next
+
+-- the only interleaving of one list is the list
+abbrev pub OneListIsItsInterleaving : Type 0
+OneListIsItsInterleaving = (list whole : List Transaction) → Interleaves (list ∷ []) whole → whole ≡ list
+
+-- of each kind, schema and name there is at most one object behind a history
+abbrev pub ObjectsStandOnce : Type 0
+ObjectsStandOnce = (history : List Transaction) (database : Database) → db history ≡ Some database
+    → (kind : Kind) (schema name : List ℕ) → length (filter (is_object kind schema name) database.objects) ≤ 1
+
+-- the schema of each object that isn't one is there
+abbrev pub SchemasAreThere : Type 0
+SchemasAreThere = (history : List Transaction) (database : Database) → db history ≡ Some database
+    → All (λ (object : Object). kind_eq object.kind Schema ≡ false → has_schema database object.schema ≡ true) database.objects
+
+-- each step fits, and keeps what is said of what is left of the lists and of the database
+abbrev pub IsKept : (List (List Transaction) → Database → Type 0) → Type 0
+IsKept Holds = (lists fewer : List (List Transaction)) (one : Transaction) (state : Database) → TakesHead lists one fewer → Holds lists state
+    → (next : Database) × (changes_db state one.changes ≡ Some next) × Holds fewer next
+
+-- the whole fits, nothing is left of the lists, and what is said holds
+pub record HoldsBehind (Holds : List (List Transaction) → Database → Type 0) (state : Database) (whole : List Transaction) : Type 0 where
+  pub last : Database
+  pub fits : more_db state whole ≡ Some last
+  pub left : List (List Transaction)
+  pub none : All (λ (list : List Transaction). list ≡ []) left
+  pub held : Holds left last

@@ -1,0 +1,11 @@
+//! Laws of what histories do to a database: what holds behind every history, and how histories that
+//! are carried out beside one another leave it. Nothing here runs: the contracts are the laws, over the
+//! data of `server_model`.
+#![tactic(auto)]
+
+mod laws;
+
+pub use laws::{
+    lists_over_different_tables_commute, objects_stand_once, one_list_is_its_interleaving,
+    schemas_are_there, their_interleavings_agree,
+};
