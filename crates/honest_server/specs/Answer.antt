@@ -1,7 +1,7 @@
 -- What a query is answered over a database (MySQL 8.0 Reference Manual, 28.3 "INFORMATION_SCHEMA General Tables", 15.7.7 "SHOW Statements", 15.2.13 "SELECT Statement").
-use Rattle.std.specs.Prelude.{ℕ, ◌≡◌, ◌⊎◌, ◌==◌, ◌&&◌, ◌||◌, not, cond, Bool, true, false, List, [], ◌∷◌, ◌++◌, map, filter, filter_map, flat_map, find, position, take, drop, length, slice_get, Option, Some, None, option_and_then, option_map, bytes_eq, codes, decimal, ℤ, int_lt, int_le, IsSome}
-use Rattle.std.specs.List.{list_any, list_all}
-use Rattle.object_texts.specs.Shape.{shape, is_key}
+use Rattle.std.specs.Prelude.{ℕ, ◌≡◌, ◌⊎◌, ◌==◌, ◌&&◌, ◌||◌, not, cond, Bool, true, false, List, [], ◌∷◌, ◌++◌, map, filter, filter_map, flat_map, find, position, take, drop, length, slice_get, Option, Some, None, option_and_then, option_map, bytes_eq, nat_eq, codes, decimal, ℤ, int_lt, int_le, IsSome}
+use Rattle.std.specs.List.{starts_with, list_any, list_all}
+use Rattle.object_texts.specs.Shape.{shape, is_integer, is_key}
 use Rattle.object_texts.specs.declared.head.Kind.{Kind}
 use Rattle.object_texts.specs.declared.head.Kind.TheVariants.{Schema, Table, Procedure, Function, View, Trigger}
 use Rattle.object_texts.specs.declared.shape.Column.{Column}
@@ -62,19 +62,20 @@ rows_in_schema row database schema = filter_map (λ object. row object object.ki
 
 -- the bytes hold these bytes at some place
 abbrev pub holds : List ℕ → List ℕ → Bool
-holds needle [] = bytes_eq needle []
-holds needle (byte ∷ bytes) = bytes_eq needle (take (length needle) (byte ∷ bytes)) || holds needle bytes
+holds needle [] = starts_with nat_eq [] needle
+holds needle (byte ∷ bytes) = starts_with nat_eq (byte ∷ bytes) needle || holds needle bytes
 
 -- what EXTRA says of a generated column
 abbrev pub says_generated : List ℕ → Bool
 says_generated extra = holds (codes "VIRTUAL GENERATED") extra || holds (codes "STORED GENERATED") extra
 
--- COLUMNS: a column's name and type, whether it is unsigned, and whether it is generated
+-- COLUMNS: a column's name and type, whether it is generated, and, of a plain column of an integer type, whether it is unsigned. Only such
+-- a column can be a key. The type of another may hold the word 'unsigned' as a value of an enum, and its text as part of an expression.
 pub record IsColumnRow (column : Column) (row : List Cell) : Type 0 where
   pub column_type : List ℕ
   pub extra : List ℕ
   pub row_is : row ≡ Value column.name ∷ Value column.data_type ∷ Value column_type ∷ Value extra ∷ []
-  pub unsigned : holds (codes "unsigned") column_type ≡ column.unsigned
+  pub unsigned : is_integer column.data_type ≡ true → column.generated ≡ false → holds (codes "unsigned") column_type ≡ column.unsigned
   pub generated : says_generated extra ≡ column.generated
 
 -- one row for each column, in their order
