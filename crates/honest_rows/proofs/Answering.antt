@@ -1,7 +1,7 @@
 -- What answers queries over the worked database.
 use lib.Utf8.{encode}
 use Rattle.std.proofs.Common.{◌≡◌, ℕ, true, false, List, [], ◌∷◌, Some, None, refl, subst, pos, inl, inr, map, filter, filter_map, take, drop, codes, ◌⊎◌}
-use Rattle.std.proofs.lemmas.Bool.{false≢true}
+use Rattle.std.proofs.lemmas.Bool.{false≢true, true≢false}
 use Rattle.std.specs.Fmt.{digits}
 use Rattle.std.specs.Str.{chars, is_utf8}
 use Rattle.object_texts.specs.Token.{tokens}
@@ -11,7 +11,7 @@ use Rattle.sql_literals.specs.declared.cell.Cell.{Cell}
 use Rattle.sql_literals.specs.declared.cell.Cell.TheVariants.{Value}
 use Rattle.honest_server.specs.Answer.{HasKey, IsColumnRow, everything, holds, is_inside, keys_rise, only_cell}
 use Rattle.honest_server.specs.Columns.{integer_at}
-use Rattle.honest_rows.specs.Answered.{column_row, key, told, AllRowsCome, ATableIsToldWithItsEngine, ATextIsShown, ColumnsAreAskedForInOrder, ColumnsAreToldWithTheirTypes, EachSchemaIsTold, KeysAreSkipped, NoPositionIsShown, NoTriggersAreTold, RowsInsideTheBoundsCome, RowsComeInTheOrderOfTheKey, TheKeyIsTold, TheLastPositionIsShown}
+use Rattle.honest_rows.specs.Answered.{column_row, key, told, AllRowsCome, ATableIsToldWithItsEngine, ATextIsShown, ColumnsAreAskedForInOrder, ColumnsAreToldWithTheirTypes, EachSchemaIsTold, KeysAreSkipped, NoPositionIsShown, NoTriggersAreTold, RowsInsideTheBoundsCome, RowsComeInTheOrderOfTheKey, TheKeyIsTold, TheLastPositionIsShown, TheSignOfPlainIntegersIsTold}
 use Rattle.honest_rows.proofs.Bags.{first_of_two, other_order, same_rows, some_row}
 use Rattle.honest_rows.specs.Worked.{id, one, schema, the_table, two}
 
@@ -101,18 +101,26 @@ pub each_schema : EachSchemaIsTold
 unfolding count_of
 each_schema = record { allowed = same_rows _; refused = λ answer. absurd (cc (answer.counts (Value schema ∷ []))) }
 
+-- a plain integer whose type holds the word is unsigned
+signed : IsColumnRow id (column_row key (codes "int") (codes "int unsigned")) → ⊥
+signed row = let same : row.column_type ≡ codes "int unsigned" = cc (row.row_is) in absurd (cc (subst (λ column_type. holds (codes "unsigned") column_type ≡ false) same (row.unsigned refl refl)))
+
 pub column_types : ColumnsAreToldWithTheirTypes
 column_types = record {
   allowed = (
-    record { column_type = codes "int"; extra = []; row_is = refl; unsigned = refl; generated = refl },
-    (record { column_type = codes "varchar(9)"; extra = []; row_is = refl; unsigned = refl; generated = refl }, tt),
+    record { column_type = codes "int"; extra = []; row_is = refl; unsigned = λ p q. refl; generated = refl },
+    (record { column_type = codes "varchar(9)"; extra = []; row_is = refl; unsigned = λ p q. refl; generated = refl }, tt),
   );
   none = refl;
-  refused = λ answer. never answer.0;
+  refused = λ answer. signed answer.0;
 }
-  where
-    never : IsColumnRow id (column_row key (codes "int") (codes "int unsigned")) → ⊥
-    never row = let same : row.column_type ≡ codes "int unsigned" = cc (row.row_is) in absurd (cc (subst (λ column_type. holds (codes "unsigned") column_type ≡ false) same row.unsigned))
+
+pub signs : TheSignOfPlainIntegersIsTold
+signs = record {
+  allowed = record { column_type = codes "enum('unsigned')"; extra = []; row_is = refl; unsigned = λ p q. absurd (false≢true p); generated = refl };
+  generated = record { column_type = codes "int"; extra = codes "VIRTUAL GENERATED"; row_is = refl; unsigned = λ p q. absurd (true≢false q); generated = refl };
+  refused = signed;
+}
 
 pub key_told : TheKeyIsTold
 key_told = record { allowed = (refl, refl); refused = λ answer. absurd (cc (answer.1)) }

@@ -16,3 +16,8 @@ pub mod Counting
 pub mod Triggering
 pub mod Progressing
 pub mod Setting
+pub mod LoggingIn
+pub mod Viewing
+pub mod Sending
+pub mod Packing
+pub mod Holding

@@ -14,7 +14,7 @@ use Rattle.honest_server.specs.Moves.{plainly}
 use Rattle.honest_server.specs.Serve.{Reply, Serves, done, rows, refused}
 use Rattle.honest_server.specs.Spelled.{Spells}
 use Rattle.honest_server.specs.State.{State, with_others}
-use Rattle.honest_rows.specs.Effects.{opened, worked}
+use Rattle.honest_rows.specs.Effects.{opened, with_three, worked}
 use Rattle.honest_rows.specs.Exchanges.{commit, ok}
 use Rattle.honest_rows.specs.Links.{AFailureLosesNothingByHalves, ALinkHasSeenItsOwn, BytesAreReceived, TheAnswerWaits, ok_packet}
 use Rattle.honest_rows.specs.Worked.{history, put, three, unmarked}
@@ -43,10 +43,14 @@ not_served done messages serves spells = kept lost refl refl serves.more serves.
 not_served (rows found) messages serves spells = spells
 not_served (refused found said) messages serves spells = served_commits.allowed.no_err said lost (subst (λ (found : List (List Cell)). Serves plainly opened (SomeCommand Commit) (refused found said) lost) serves.before serves)
 
-pub failure : AFailureLosesNothingByHalves
+-- a COMMIT that is handled and answered
+pub committed : Exchanges plainly opened commit ok_packet (with_three opened)
 unfolding packets
+committed = record { payload = query_payload (codes "COMMIT"); is_message = record { id = 0; begins = refl; message_is = refl }; messages = ok ∷ []; replies = served (codes "COMMIT") (SomeCommand Commit) done refl refl read served_commits.allowed.served one_message.allowed; reply_is = refl }
+
+pub failure : AFailureLosesNothingByHalves
 failure = record {
-  committed = record { failed = refl; left = inl (ok_packet, record { payload = query_payload (codes "COMMIT"); is_message = record { id = 0; begins = refl; message_is = refl }; messages = ok ∷ []; replies = served (codes "COMMIT") (SomeCommand Commit) done refl refl read served_commits.allowed.served one_message.allowed; reply_is = refl }) };
+  committed = record { failed = refl; left = inl (ok_packet, committed) };
   untouched = record { failed = refl; left = inr (inr refl) };
   refused = λ breaks. never breaks.left;
 }

@@ -30,7 +30,7 @@ unfolding query_text first
 query_first MasterStatus = refl
 query_first query = refl
 
-no_head : HasHead text → ⊥
+pub no_head : HasHead text → ⊥
 unfolding HasHead tokens
 no_head head = cc (head.1)
 

@@ -36,7 +36,7 @@ four = row (codes "4") Null
 abbrev five : List Cell
 five = row (codes "5") Null
 
--- the database behind the row 3, and histories that go on from there
+-- the database behind the row with the key 3, and histories that go on from there
 
 stands_three : db (history ++ puts_three ∷ []) ≡ Some (with_rows (one ∷ two ∷ three ∷ []))
 unfolding change_db has_object may_make

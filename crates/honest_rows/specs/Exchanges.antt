@@ -1,5 +1,5 @@
 -- The bytes of replies, and what messages are answered by.
-use Rattle.std.specs.Prelude.{ℕ, ◌≡◌, Bool, true, List, [], ◌∷◌, ◌++◌, Some, codes}
+use Rattle.std.specs.Prelude.{ℕ, ◌≡◌, Bool, true, List, [], ◌∷◌, ◌++◌, Some, None, codes}
 use Rattle.my_packets.specs.Packet.{packets}
 use Rattle.result_rows.specs.KeptText.{kept_text}
 use Rattle.result_rows.specs.Reply.{reply_of}
@@ -16,7 +16,7 @@ use Rattle.honest_server.specs.Exchange.{Exchanges}
 use Rattle.honest_server.specs.Moves.{plainly}
 use Rattle.honest_server.specs.Serve.{Reply, done, rows, refused}
 use Rattle.honest_server.specs.Spelled.{Spells}
-use Rattle.honest_server.specs.State.{State, closed, greeted}
+use Rattle.honest_server.specs.State.{State, closed, greeted, with_error}
 use Rattle.honest_rows.specs.Effects.{worked}
 use Rattle.honest_rows.specs.Worked.{schema}
 
@@ -88,3 +88,12 @@ logging_in = record worked { phase = greeted }
 pub record ALoginIsTaken : Type 0 where
   pub allowed : Exchanges plainly logging_in (1 ∷ 0 ∷ 0 ∷ 1 ∷ 0 ∷ []) (7 ∷ 0 ∷ 0 ∷ 2 ∷ ok) worked
   pub silent : (new : State) → Exchanges plainly logging_in (1 ∷ 0 ∷ 0 ∷ 1 ∷ 0 ∷ []) [] new → ⊥
+
+-- COM_PING, a command that is no statement
+abbrev pub ping : List ℕ
+ping = 1 ∷ 0 ∷ 0 ∷ 0 ∷ 14 ∷ []
+
+-- is answered by ERR, and changes nothing
+pub record AnUnknownCommandIsAnsweredByAnErr : Type 0 where
+  pub allowed : Exchanges plainly worked ping (11 ∷ 0 ∷ 0 ∷ 1 ∷ err) (with_error worked None refusal)
+  pub refused : (new : State) → Exchanges plainly worked ping (7 ∷ 0 ∷ 0 ∷ 1 ∷ ok) new → ⊥

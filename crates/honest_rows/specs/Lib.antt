@@ -9,3 +9,6 @@ pub mod Links
 pub mod Triggers
 pub mod Progress
 pub mod Routines
+pub mod Logins
+pub mod Views
+pub mod Sends

@@ -1,20 +1,22 @@
 -- A procedure and a view, and the settings that they are made under.
 use Rattle.std.specs.Prelude.{ℕ, false, List, [], ◌∷◌, ◌++◌, Some, None, codes}
-use Rattle.object_texts.specs.declared.head.Kind.TheVariants.{Procedure, View}
+use Rattle.object_texts.specs.declared.head.Kind.TheVariants.{Function, Procedure, View}
 use Rattle.server_model.specs.declared.data.Change.TheVariants.{Make}
+use Rattle.server_model.specs.declared.data.Database.{Database}
 use Rattle.server_model.specs.declared.data.Object.{Object}
 use Rattle.server_model.specs.declared.data.Settings.{Settings}
 use Rattle.server_model.specs.declared.data.Transaction.{Transaction}
 use Rattle.sql_literals.specs.declared.cell.Cell.{Cell}
 use Rattle.sql_literals.specs.declared.cell.Cell.TheVariants.{Null, Value}
 use Rattle.sql_statements.specs.declared.command.Command.TheVariants.{CharacterSetClient, CollationConnection, Create, SqlMode, Use}
-use Rattle.sql_statements.specs.declared.query.Query.TheVariants.{CreateProcedure}
+use Rattle.sql_statements.specs.declared.query.Query.TheVariants.{CreateProcedure, Routines}
 use Rattle.sql_statements.specs.declared.statement.Statement.TheVariants.{Command as SomeCommand, Query as SomeQuery}
+use Rattle.honest_server.specs.Answer.{Answers}
 use Rattle.honest_server.specs.Moves.{plainly}
 use Rattle.honest_server.specs.Serve.{Serves, done, rows}
 use Rattle.honest_server.specs.State.{State, no_settings, with_own}
 use Rattle.honest_rows.specs.Effects.{IsServed, link}
-use Rattle.honest_rows.specs.Worked.{schema, schema_alone, unmarked}
+use Rattle.honest_rows.specs.Worked.{schema, schema_alone, the_schema, unmarked}
 
 abbrev pub procedure_text : List ℕ
 procedure_text = codes "CREATE PROCEDURE `p`() SELECT 1"
@@ -70,3 +72,22 @@ pub record ARoutineIsShownWithItsSettings : Type 0 where
   pub withheld : Serves plainly unwilling (SomeQuery (CreateProcedure schema (codes "p"))) (rows (shown (codes "ANSI") Null)) unwilling
   pub kept : (new : State) → Serves plainly reading (SomeQuery (CreateProcedure schema (codes "p"))) (rows (shown (codes "ANSI") Null)) new → ⊥
   pub refused : (new : State) → Serves plainly reading (SomeQuery (CreateProcedure schema (codes "p"))) (rows (shown [] (Value procedure_text))) new → ⊥
+
+-- a function with the same settings, and a schema with all three
+abbrev pub the_function : Object
+the_function = record the_procedure { kind = Function; name = codes "f"; text = codes "CREATE FUNCTION `f`() RETURNS int RETURN 1" }
+
+abbrev pub with_all : Database
+with_all = record { objects = the_schema ∷ the_procedure ∷ the_function ∷ the_view ∷ []; rows = [] }
+
+-- how the two are listed
+abbrev pub procedure : List Cell
+procedure = Value (codes "p") ∷ Value (codes "PROCEDURE") ∷ []
+
+abbrev pub function : List Cell
+function = Value (codes "f") ∷ Value (codes "FUNCTION") ∷ []
+
+-- procedures and functions are listed, in any order, and nothing else is
+pub record RoutinesAreListed : Type 0 where
+  pub allowed : Answers with_all (Routines schema) (function ∷ procedure ∷ [])
+  pub refused : Answers with_all (Routines schema) (function ∷ []) → ⊥

@@ -69,7 +69,7 @@ pub record LinksPutDifferentKeys : Type 0 where
   pub allowed : StaysHonest 0 (record (site true) { returned = (puts_three ∷ []) ∷ [] }) worked
   pub refused : StaysHonest 0 (record (site true) { returned = (puts_three ∷ []) ∷ [] }) (with_three worked) → ⊥
 
--- Two links to a quiet site: A puts the rows 3 and 4, and B the row 5.
+-- Two links to a quiet site: A puts the rows of the keys 3 and 4, and B that of 5.
 abbrev pub puts_four : Transaction
 puts_four = unmarked (put (row (codes "4") Null) ∷ [])
 

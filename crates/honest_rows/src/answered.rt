@@ -1,5 +1,5 @@
 // Answers to queries over the worked database. Nothing here runs: the contracts are the examples.
-ghost use Rattle.honest_rows.specs.Answered.{ATableIsToldWithItsEngine, ATextIsShown, AllRowsCome, ColumnsAreAskedForInOrder, ColumnsAreToldWithTheirTypes, EachSchemaIsTold, KeysAreSkipped, NoPositionIsShown, NoTriggersAreTold, RowsInsideTheBoundsCome, RowsComeInTheOrderOfTheKey, TheKeyIsTold, TheLastPositionIsShown};
+ghost use Rattle.honest_rows.specs.Answered.{ATableIsToldWithItsEngine, ATextIsShown, AllRowsCome, ColumnsAreAskedForInOrder, ColumnsAreToldWithTheirTypes, EachSchemaIsTold, KeysAreSkipped, NoPositionIsShown, NoTriggersAreTold, RowsInsideTheBoundsCome, RowsComeInTheOrderOfTheKey, TheKeyIsTold, TheLastPositionIsShown, TheSignOfPlainIntegersIsTold};
 
 /// Rows that are asked for by key come in its order, and in no other.
 pub fn rows_come_in_the_order_of_the_key()
@@ -39,6 +39,11 @@ pub fn each_schema_is_told()
 /// Columns are told with their types, and a table that isn't there has none.
 pub fn columns_are_told_with_their_types()
     ensures { ColumnsAreToldWithTheirTypes }
+{}
+
+/// A plain integer's type tells whether it is unsigned. The types of other columns may hold the word as well.
+pub fn the_sign_of_plain_integers_is_told()
+    ensures { TheSignOfPlainIntegersIsTold }
 {}
 
 /// Of the primary key its column is told.

@@ -1,5 +1,5 @@
 // What messages are answered by, and what bytes spell. Nothing here runs: the contracts are the examples.
-ghost use Rattle.honest_rows.specs.Exchanges.{ACommandIsAnsweredByOneMessage, ACommitIsAnsweredByAnOk, ALoginIsTaken, AQueryIsAnsweredByItsRows, AQuitIsntAnswered};
+ghost use Rattle.honest_rows.specs.Exchanges.{ACommandIsAnsweredByOneMessage, ACommitIsAnsweredByAnOk, ALoginIsTaken, AQueryIsAnsweredByItsRows, AQuitIsntAnswered, AnUnknownCommandIsAnsweredByAnErr};
 
 /// An OK or an ERR spells the reply to a command, and no result set does.
 pub fn a_command_is_answered_by_one_message()
@@ -26,4 +26,9 @@ pub fn a_quit_isnt_answered()
 /// A login may be taken, and is never left without an answer.
 pub fn a_login_is_taken()
     ensures { ALoginIsTaken }
+{}
+
+/// A command that is no statement, COM_PING, is answered by ERR and by no OK.
+pub fn an_unknown_command_is_answered_by_an_err()
+    ensures { AnUnknownCommandIsAnsweredByAnErr }
 {}

@@ -8,17 +8,20 @@ mod databases;
 mod effects;
 mod exchanges;
 mod links;
+mod logins;
 mod progress;
 mod routines;
+mod sends;
 mod sites;
 mod triggers;
+mod views;
 
 pub use answered::{
     a_table_is_told_with_its_engine, a_text_is_shown, all_rows_come,
     columns_are_asked_for_in_order, columns_are_told_with_their_types, each_schema_is_told,
     keys_are_skipped, no_position_is_shown, no_triggers_are_told,
     rows_come_in_the_order_of_the_key, rows_inside_the_bounds_come, the_key_is_told,
-    the_last_position_is_shown,
+    the_last_position_is_shown, the_sign_of_plain_integers_is_told,
 };
 pub use catalogue::{
     a_counter_rises, a_number_at_the_counter_raises_it, a_number_is_under_its_counter,
@@ -37,16 +40,26 @@ pub use effects::{
 pub use exchanges::{
     a_command_is_answered_by_one_message, a_commit_is_answered_by_an_ok, a_login_is_taken,
     a_query_is_answered_by_its_rows, a_quit_isnt_answered,
+    an_unknown_command_is_answered_by_an_err,
 };
 pub use links::{
     a_failure_loses_nothing_by_halves, a_link_has_seen_its_own, bytes_are_received,
     the_answer_waits,
 };
+pub use logins::{a_login_is_turned_away, another_plugin_is_asked_for_once};
 pub use progress::the_progress_is_kept;
-pub use routines::{a_routine_is_shown_with_its_settings, settings_are_of_the_next_object};
+pub use routines::{
+    a_routine_is_shown_with_its_settings, routines_are_listed, settings_are_of_the_next_object,
+};
+pub use sends::{
+    a_commit_makes_nothing, a_message_is_sent, a_message_is_whole,
+    a_snapshot_shows_what_the_holder_has_seen, a_transaction_is_committed_alone,
+    nothing_is_committed_beside_a_holder,
+};
 pub use sites::{
     a_grant_comes_first, a_new_link_has_seen_the_history, a_new_link_is_greeted,
     connecting_leaves_the_history, grants_are_prefixes_of_one_list, links_put_different_keys,
     the_history_is_told_once_all_are_back, two_links_side_by_side,
 };
 pub use triggers::{a_trigger_is_made_on_its_table, a_trigger_is_told, a_trigger_may_put_more};
+pub use views::{a_view_is_shown_with_its_settings, what_a_view_needs_is_told};
