@@ -7,3 +7,4 @@ pub mod Moments
 pub mod Replies
 pub mod Script
 pub mod Site
+pub mod Unserved

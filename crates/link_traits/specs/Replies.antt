@@ -26,12 +26,13 @@ pub record Returned : Type 0 where
   pub sent : List (List ℕ)
 
 -- the conversations of the next links, the links that came back, where connections go, how many links
--- are out, the number of the next link, the greatest answer of a `recv`, and the calls that are to fail
+-- are out and whether that is one that is alone, the number of the next link, the greatest answer of a `recv`, and the calls that are to fail
 pub record SiteState : Type 0 where
   pub conversations : List (List (List ℕ))
   pub returned : List Returned
   pub aim : Option Aim
   pub out : ℕ
+  pub alone : Bool
   pub next : ℕ
   pub cut : ℕ
   pub script : Counts

@@ -125,11 +125,27 @@ impl ReplyLink {
 }
 
 impl Link for ReplyLink {
+    ghost use Rattle.link_traits.specs.Unserved.{unserved_link};
+
+    ghost honest = { λ _. ⊥ };
+
+    ghost served = { λ _. unserved_link };
+
     ghost tells = { λ _. Unit {0} };
 
     ghost told = { λ link. link.told };
 
     ghost faults = { λ link. faults_of link.script };
+
+    ghost same_origin = { λ _ _. Unit {0} };
+
+    ghost origin_begins = { λ _. tt };
+
+    ghost origin_turns = { λ _ _ _. tt };
+
+    ghost origins_join = { λ _ _ _ _ _. tt };
+
+    ghost sound = { λ _ honest. absurd honest };
 
     fn send(&mut self, message: &[u8]) -> Result<(), LinkFailed>
         ensures link { self.new ≡ record self.old { told = if is_ok result then answered self.old.told message.now else broken self.old.told; script = self.new.script } }
@@ -150,6 +166,13 @@ impl Link for ReplyLink {
             return Err(LinkFailed);
         }
         Ok(())
+    }
+
+    fn send_beside(&mut self, _holder: &ReplyLink, message: &[u8]) -> Result<(), LinkFailed>
+        ensures link { self.new ≡ record self.old { told = if is_ok result then answered self.old.told message.now else broken self.old.told; script = self.new.script } }
+        ensures counts { Counted self.old.script self.old.told.failed result self.new.script }
+    {
+        self.send(message)
     }
 
     fn recv(&mut self, buffer: &mut [u8]) -> Result<usize, LinkFailed>

@@ -41,6 +41,8 @@ pub struct ReplySite {
     returned: Vec<ReturnedLink>,
     target: Option<Target>,
     out: usize,
+    // Whether a link is out that is alone.
+    alone: bool,
     // The number of the next link.
     next: u64,
     cut: u32,
@@ -53,7 +55,7 @@ impl Model for ReplySite {
 
     ghost Value = { SiteState };
 
-    ghost view = { λ s. record { conversations = drop s.used s.conversations; returned = s.returned.items; aim = s.target; out = s.out; next = s.next; cut = s.cut; script = s.script } };
+    ghost view = { λ s. record { conversations = drop s.used s.conversations; returned = s.returned.items; aim = s.target; out = s.out; alone = s.alone; next = s.next; cut = s.cut; script = s.script } };
 
     ghost invariant = { λ s. vec_len s.returned + s.out ≤ vec_capacity s.returned };
 }
@@ -73,7 +75,7 @@ impl ReplySite {
         faults: NumberList,
         cut: u32,
     ) -> ReplySite
-        ensures { result ≡ record { conversations = conversations; returned = []; aim = None; out = 0; next = 0; cut = cut; script = script_of faults 0 } }
+        ensures { result ≡ record { conversations = conversations; returned = []; aim = None; out = 0; alone = false; next = 0; cut = cut; script = script_of faults 0 } }
     {
         ReplySite {
             alloc,
@@ -82,6 +84,7 @@ impl ReplySite {
             returned: Vec::new(alloc),
             target: None,
             out: 0,
+            alone: false,
             next: 0,
             cut,
             script: Script::new(faults),
@@ -144,34 +147,11 @@ impl ReplySite {
         self.out += 1;
         Ok(link)
     }
-}
 
-impl Site for ReplySite {
-    type Link = ReplyLink;
-
-    ghost tells = { λ _. Unit {0} };
-
-    ghost told = { site_told };
-
-    ghost aim_of = { λ site. site.aim };
-
-    ghost out = { λ site. site.out };
-
-    ghost faults = { λ site. faults_of site.script };
-
-    fn aim(&mut self, host: &str, port: u16) -> Result<(), OutOfMemory>
-        ensures { self.new ≡ record self.old { aim = if is_ok result then Some (record { host = host.now; port = port }) else self.old.aim } }
-    {
-        let host = Name::of(self.alloc, host)?;
-        self.target = Some(Target { host, port });
-        Ok(())
-    }
-
-    fn connect_sole(&mut self) -> Result<ReplyLink, LinkFailed>
-        requires none_out { self.old.out ≡ 0 }
-
+    // Makes the next link.
+    fn next_link(&mut self) -> Result<ReplyLink, LinkFailed>
         ensures link { IfOk result (λ link. link ≡ record { told = begun (next_of self.old.conversations); number = self.old.next; cut = self.old.cut; script = script_of self.old.script.failing (number_of self.old.next 1) }) }
-        ensures site { self.new ≡ record self.old { conversations = drop 1 self.old.conversations; out = if is_ok result then 1 else 0; next = capped (self.old.next + 1); script = self.new.script } }
+        ensures site { self.new ≡ record self.old { conversations = drop 1 self.old.conversations; out = if is_ok result then self.old.out + 1 else self.old.out; next = capped (self.old.next + 1); script = self.new.script } }
         ensures counts { Counted (record self.old.script { call = number_of self.old.next 0 }) false result self.new.script }
     {
         let number = self.next;
@@ -189,14 +169,75 @@ impl Site for ReplySite {
             }
         }
     }
+}
+
+impl Site for ReplySite {
+    type Link = ReplyLink;
+
+    ghost use Rattle.link_traits.specs.Unserved.{unserved_site};
+
+    ghost honest = { λ _. ⊥ };
+
+    ghost served = { λ _. unserved_site };
+
+    ghost own = { λ _ _. Unit {0} };
+
+    ghost tells = { λ _. Unit {0} };
+
+    ghost told = { site_told };
+
+    ghost aim_of = { λ site. site.aim };
+
+    ghost out = { λ site. site.out };
+
+    ghost sole_out = { λ site. site.alone };
+
+    ghost faults = { λ site. faults_of site.script };
+
+    ghost own_of_one = { λ _ _ _ _ _. tt };
+
+    ghost stays_own = { λ _ _ _ _ own. own };
+
+    ghost settled = { λ _ honest. absurd honest };
+
+    fn aim(&mut self, host: &str, port: u16) -> Result<(), OutOfMemory>
+        ensures { self.new ≡ record self.old { aim = if is_ok result then Some (record { host = host.now; port = port }) else self.old.aim } }
+    {
+        let host = Name::of(self.alloc, host)?;
+        self.target = Some(Target { host, port });
+        Ok(())
+    }
+
+    fn connect(&mut self) -> Result<ReplyLink, LinkFailed>
+        ensures link { IfOk result (λ link. link ≡ record { told = begun (next_of self.old.conversations); number = self.old.next; cut = self.old.cut; script = script_of self.old.script.failing (number_of self.old.next 1) }) }
+        ensures site { self.new ≡ record self.old { conversations = drop 1 self.old.conversations; out = if is_ok result then self.old.out + 1 else self.old.out; alone = false; next = capped (self.old.next + 1); script = self.new.script } }
+        ensures counts { Counted (record self.old.script { call = number_of self.old.next 0 }) false result self.new.script }
+    {
+        self.alone = false;
+        self.next_link()
+    }
+
+    fn connect_sole(&mut self) -> Result<ReplyLink, LinkFailed>
+        requires none_out { self.old.out ≡ 0 }
+
+        ensures link { IfOk result (λ link. link ≡ record { told = begun (next_of self.old.conversations); number = self.old.next; cut = self.old.cut; script = script_of self.old.script.failing (number_of self.old.next 1) }) }
+        ensures site { self.new ≡ record self.old { conversations = drop 1 self.old.conversations; out = if is_ok result then 1 else 0; alone = is_ok result; next = capped (self.old.next + 1); script = self.new.script } }
+        ensures counts { Counted (record self.old.script { call = number_of self.old.next 0 }) false result self.new.script }
+    {
+        self.alone = false;
+        let link = self.next_link()?;
+        self.alone = true;
+        Ok(link)
+    }
 
     fn give_back(&mut self, link: ReplyLink)
         requires out { 0 < self.old.out }
 
-        ensures site { self.new ≡ record self.old { returned = self.old.returned ++ record { number = link.number; sent = link.told.sent } ∷ []; out = self.old.out - 1; script = added self.old.script link.script } }
+        ensures site { self.new ≡ record self.old { returned = self.old.returned ++ record { number = link.number; sent = link.told.sent } ∷ []; out = self.old.out - 1; alone = false; script = added self.old.script link.script } }
     {
         let (returned, script) = link.close();
         self.out -= 1;
+        self.alone = false;
         self.returned.push_reserved(returned);
         self.script.add(&script);
     }
@@ -243,7 +284,7 @@ mod tests {
     }
 
     // Whether these bytes come next.
-    fn hears<L: Link>(link: &mut L, bytes: &[u8]) -> bool {
+    fn hears(link: &mut ReplyLink, bytes: &[u8]) -> bool {
         let mut buffer = [0; 8];
         match link.recv(&mut buffer) {
             Ok(count) => &buffer[..count] == bytes,
@@ -252,12 +293,12 @@ mod tests {
     }
 
     // Whether the message is sent.
-    fn sends<L: Link>(link: &mut L, message: &[u8]) -> bool {
+    fn sends(link: &mut ReplyLink, message: &[u8]) -> bool {
         link.send(message).is_ok()
     }
 
     // Whether these pieces come next, which have spaces between them.
-    fn hears_each<L: Link>(link: &mut L, pieces: &str) -> bool {
+    fn hears_each(link: &mut ReplyLink, pieces: &str) -> bool {
         for piece in pieces.split(' ') {
             if !hears(link, piece.as_bytes()) {
                 return false;
@@ -267,7 +308,7 @@ mod tests {
     }
 
     // Whether each of three replies comes in these pieces, and nothing behind them.
-    fn hears_all<L: Link>(link: &mut L, replies: &[&str; 3]) -> bool {
+    fn hears_all(link: &mut ReplyLink, replies: &[&str; 3]) -> bool {
         for pieces in replies {
             if !hears_each(link, pieces) || !sends(link, b"on") {
                 return false;
@@ -350,7 +391,7 @@ mod tests {
     }
 
     // Which calls of a link succeed, of a `recv`, a `send` and a second `recv`.
-    fn successes<L: Link>(link: &mut L) -> [bool; 3] {
+    fn successes(link: &mut ReplyLink) -> [bool; 3] {
         let first = hears(link, b"a");
         let second = sends(link, b"one");
         [first, second, hears(link, b"b")]

@@ -2,10 +2,11 @@
 use Rattle.std.specs.Prelude.{ℕ, Bool, List, Option}
 use Rattle.link_traits.specs.Site.{Aim}
 
--- where a site aims, how many links are out, and how often it has failed
+-- where a site aims, how many links are out and whether that is one that is alone, and how often it has failed
 pub record SiteStatus : Type 0 where
   pub aim : Option Aim
   pub out : ℕ
+  pub alone : Bool
   pub faults : ℕ
 
 -- whether a link has failed, and how often; and where its connection's bytes are known, what it has written and what is

@@ -72,11 +72,27 @@ impl<S: Read + Write + Drop> TcpLink<S> {
 }
 
 impl<S: Read + Write + Drop> Link for TcpLink<S> {
+    ghost use Rattle.link_traits.specs.Unserved.{unserved_link};
+
+    ghost honest = { λ _. ⊥ };
+
+    ghost served = { λ _. unserved_link };
+
     ghost tells = { λ _. ⊥ };
 
     ghost told = { λ _. begun [] };
 
     ghost faults = { λ link. link.faults };
+
+    ghost same_origin = { λ _ _. Unit {0} };
+
+    ghost origin_begins = { λ _. tt };
+
+    ghost origin_turns = { λ _ _ _. tt };
+
+    ghost origins_join = { λ _ _ _ _ _. tt };
+
+    ghost sound = { λ _ honest. absurd honest };
 
     fn send(&mut self, message: &[u8]) -> Result<(), LinkFailed>
         ensures cause { HasCause self.old.faults self.new.faults result }
@@ -88,6 +104,15 @@ impl<S: Read + Write + Drop> Link for TcpLink<S> {
             return Err(self.fail());
         }
         Ok(())
+    }
+
+    fn send_beside(&mut self, _holder: &TcpLink<S>, message: &[u8]) -> Result<(), LinkFailed>
+        ensures cause { HasCause self.old.faults self.new.faults result }
+        ensures alive { OnOk result ((self.old.failed ≡ false) × (self.new.failed ≡ false)) }
+        ensures failed { OnErr result (self.new.failed ≡ true) }
+        ensures written { OnOk result (Appends self.old.written self.new.written message.now) }
+    {
+        self.send(message)
     }
 
     fn recv(&mut self, buffer: &mut [u8]) -> Result<usize, LinkFailed>

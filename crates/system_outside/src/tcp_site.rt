@@ -1,5 +1,5 @@
 // A server that is reached over TCP.
-ghost use Rattle.std.specs.Prelude.{◌≡◌, ◌≤◌, ◌+◌, ◌-◌, ◌^◌, [], None, false, min, IfOk, IfSome};
+ghost use Rattle.std.specs.Prelude.{◌≡◌, ◌≤◌, ◌+◌, ◌-◌, ◌^◌, [], None, false, min, IfOk, IfSome, OnOk, OnErr};
 
 use crate::tcp_link::TcpLink;
 use link_traits::{Link, LinkFailed, Site};
@@ -29,6 +29,8 @@ pub struct TcpSite<R> {
     rt: R,
     aim: Option<Address>,
     out: u64,
+    // Whether a link is out that is alone.
+    alone: bool,
     faults: u64,
 }
 
@@ -37,18 +39,19 @@ impl<R> Model for TcpSite<R> {
 
     ghost Value = { SiteStatus };
 
-    ghost view = { λ s. record { aim = s.aim; out = s.out; faults = s.faults } };
+    ghost view = { λ s. record { aim = s.aim; out = s.out; alone = s.alone; faults = s.faults } };
 }
 
 impl<R> TcpSite<R> {
     /// A site that is still to be aimed. Takes no memory.
     pub fn new(rt: R) -> TcpSite<R>
-        ensures { result ≡ record { aim = None; out = 0; faults = 0 } }
+        ensures { result ≡ record { aim = None; out = 0; alone = false; faults = 0 } }
     {
         TcpSite {
             rt,
             aim: None,
             out: 0,
+            alone: false,
             faults: 0,
         }
     }
@@ -65,13 +68,30 @@ impl<R> TcpSite<R> {
 
 impl<R: Net + AllocGlobal> TcpSite<R> {
     // A link to where the site aims. A connection that doesn't take `nodelay` serves too.
-    fn connect(&self) -> Option<TcpLink<R::Stream>>
+    fn reach(&self) -> Option<TcpLink<R::Stream>>
         ensures { IfSome result (λ link. (link.failed ≡ false) × (link.faults ≡ 0)) }
     {
         let address = self.aim.as_ref()?;
         let stream = TcpStream::connect(&self.rt, (address.host.as_str(), address.port)).ok()?;
         let _ = stream.set_nodelay(true);
         TcpLink::new(self.rt.alloc(), stream).ok()
+    }
+
+    // The next link, which is out from now on.
+    fn next_link(&mut self) -> Result<TcpLink<R::Stream>, LinkFailed>
+        ensures link { IfOk result (λ link. (link.failed ≡ false) × (link.faults ≡ 0)) }
+        ensures out { OnOk result (self.new ≡ record self.old { out = self.old.out + 1 }) }
+        ensures same_out { OnErr result (self.new ≡ record self.old { faults = min (self.old.faults + 1) (2 ^ 64 - 1) }) }
+        ensures later { self.old.faults ≤ self.new.faults }
+    {
+        let Some(out) = self.out.checked_add(1) else {
+            return Err(self.fail());
+        };
+        let Some(link) = self.reach() else {
+            return Err(self.fail());
+        };
+        self.out = out;
+        Ok(link)
     }
 }
 
@@ -81,6 +101,14 @@ where
 {
     type Link = TcpLink<R::Stream>;
 
+    ghost use Rattle.link_traits.specs.Unserved.{unserved_site};
+
+    ghost honest = { λ _. ⊥ };
+
+    ghost served = { λ _. unserved_site };
+
+    ghost own = { λ _ _. Unit {0} };
+
     ghost tells = { λ _. ⊥ };
 
     ghost told = { λ _. record { conversations = []; sent = [] } };
@@ -89,7 +117,15 @@ where
 
     ghost out = { λ site. site.out };
 
+    ghost sole_out = { λ site. site.alone };
+
     ghost faults = { λ site. site.faults };
+
+    ghost own_of_one = { λ _ _ _ _ _. tt };
+
+    ghost stays_own = { λ _ _ _ _ own. own };
+
+    ghost settled = { λ _ honest. absurd honest };
 
     fn aim(&mut self, host: &str, port: u16) -> Result<(), OutOfMemory> {
         let host = String::from_str(self.rt.alloc(), host)?;
@@ -97,16 +133,21 @@ where
         Ok(())
     }
 
+    fn connect(&mut self) -> Result<TcpLink<R::Stream>, LinkFailed> {
+        self.alone = false;
+        self.next_link()
+    }
+
     fn connect_sole(&mut self) -> Result<TcpLink<R::Stream>, LinkFailed> {
-        let Some(link) = self.connect() else {
-            return Err(self.fail());
-        };
-        self.out = 1;
+        self.alone = false;
+        let link = self.next_link()?;
+        self.alone = true;
         Ok(link)
     }
 
     fn give_back(&mut self, link: TcpLink<R::Stream>) {
         self.out -= 1;
+        self.alone = false;
         self.faults = self.faults.saturating_add(link.faults());
     }
 }

@@ -1,0 +1,10 @@
+-- What links and sites are said to keep of whose servers nothing is told.
+use Rattle.std.specs.Prelude.{false, [], None}
+use Rattle.honest_server.specs.Link.{ServedLink}
+use Rattle.honest_server.specs.Site.{ServedSite, fresh}
+
+abbrev pub unserved_link : ServedLink
+unserved_link = record { waiting = []; state = fresh (record { base = []; quiet = false; sole = false; willing = false; plugin = [] }) []; failed = false }
+
+abbrev pub unserved_site : ServedSite
+unserved_site = record { history = []; returned = []; errors = []; grants = []; quiet = false; willing = false; plugin = [] }
