@@ -1,5 +1,6 @@
 -- What a reply's first message says.
-use Rattle.std.proofs.Common.{◌≡◌, ℕ, List, take, refl, sym, ◌∙◌, ap, inl, inr, Option, Some}
+use Rattle.std.proofs.Common.{◌≡◌, ℕ, true, List, take, refl, sym, ◌∙◌, ap, inl, inr, Option, Some}
+use Rattle.link_traits.specs.declared.link.Link.{Ghosts}
 use Rattle.my_packets.specs.Packet.{packets}
 use Rattle.my_packets.specs.Skimmed.{Skimmed as SkimmedView}
 use Rattle.my_packets.specs.Skims.{Skims}
@@ -11,7 +12,8 @@ use Rattle.my_session.specs.Awaited.{Awaited, done, count, done_fault, count_fau
 use Rattle.my_session.specs.Channel.{Skimmed, IsOfChannel}
 use Rattle.my_session.specs.Halt.{Halts, Misheard}
 use Rattle.my_session.specs.Heard.{HearsReply}
-use Rattle.my_session.specs.Session.{IsOfStatement}
+use Rattle.my_session.specs.Serving.{DeliversFront, DeliversReply}
+use Rattle.my_session.specs.Session.{IsOfStatement, ends_session}
 use Rattle.my_session.specs.Wire.{Wire}
 use Rattle.my_session.specs.declared.fault.SessionFault.{SessionFault}
 use Rattle.my_session.specs.declared.fault.SessionFault.TheVariants.{Link, Refused, Garbled, NotProtocol10, PluginUnsupported, TooLong, StreamTooLong, OutOfMemory}
@@ -40,6 +42,25 @@ halts_count form reply fault old new heard is = inl record {
 
 pub misheard_halts : (awaited : Awaited) (fault : SessionFault) (old new : Wire) → Misheard old fault new → Halts awaited old fault new
 misheard_halts awaited fault old new misheard = inr misheard
+
+-- the front that a skim kept tells the reply of the message that was taken off an honest link
+pub front_tells_reply : {L : Type 0} (of : Ghosts L) (skim : SkimmedView) (kept : List ℕ) (reply : Option Reply) (old new : L) (id now : ℕ) → ((seq limit : ℕ) (fed message : List ℕ) → Skims seq limit fed skim → fed ≡ packets seq message → kept ≡ take 1024 message) → reply ≡ reply_of kept → DeliversFront of skim old id new now → DeliversReply of reply old id new now
+front_tells_reply of skim kept reply old new id now keeps is front = record {
+  message = front.message;
+  delivers = front.delivers;
+  reply_is = sym (is ∙ ap (λ (l : List ℕ). reply_of l) (keeps id 67108864 (packets id front.message) front.message front.skims refl) ∙ front_tells front.message);
+}
+
+-- a fault that comes without a whole message ends the session
+pub channel_ends : (fault : SessionFault) → IsOfChannel fault → ends_session fault ≡ true
+channel_ends Link is = refl
+channel_ends (Refused form refusal) is = absurd is
+channel_ends (Garbled place) is = refl
+channel_ends (NotProtocol10 version) is = absurd is
+channel_ends (PluginUnsupported name) is = absurd is
+channel_ends (TooLong size) is = refl
+channel_ends StreamTooLong is = refl
+channel_ends OutOfMemory is = refl
 
 -- a fault that comes without a whole message may come at a statement
 pub channel_of_statement : (fault : SessionFault) → IsOfChannel fault → IsOfStatement fault

@@ -1,16 +1,21 @@
 -- How a login goes on from one stage to the next.
-use Rattle.std.proofs.Common.{◌≡◌, ◌↔◌, ℕ, false, List, [], ◌∷◌, ◌++◌, refl, sym, ◌∙◌, ap, subst, inl, inr, append_assoc, Option, Some, Result, Ok, Err, OnOk}
-use Rattle.std.specs.Prelude.{IfErr}
+use Rattle.std.proofs.Common.{◌≡◌, ◌≤◌, ◌↔◌, ℕ, false, List, [], ◌∷◌, ◌++◌, refl, sym, ◌∙◌, ap, subst, inl, inr, append_assoc, Option, Some, None, Result, Ok, Err, OnOk}
+use Rattle.std.specs.Prelude.{IfErr, MatchResult}
 use Rattle.std.proofs.lemmas.List.{append-nil}
 use Rattle.link_traits.specs.declared.link.Link.{Ghosts}
 use Rattle.my_login.specs.Response.{response}
 use Rattle.my_login.specs.declared.greeting.Greeting.{Greeting}
 use Rattle.my_login.specs.declared.switch.Switch.{Switch}
-use Rattle.result_rows.specs.declared.reader.Reply.TheVariants.{Done}
+use Rattle.my_login.specs.Switch.{switch_of}
+use Rattle.my_login.specs.declared.fault.LoginFault.{LoginFault}
+use Rattle.my_login.specs.declared.fault.LoginFault.TheVariants.{NotProtocol10 as NotTen, PluginUnsupported as Unsupported, Refused as LoginRefused, Garbled as LoginGarbled}
+use Rattle.result_rows.specs.Reply.{reply_of}
+use Rattle.result_rows.specs.declared.reader.Reply.{Reply}
+use Rattle.result_rows.specs.declared.reader.Reply.TheVariants.{Done, Refused as IsRefused, Columns}
 use Rattle.sql_statements.specs.declared.command.Command.TheVariants.{SetUp}
 use Rattle.sql_statements.specs.declared.form.Form.TheVariants.{Connect}
 use Rattle.my_session.proofs.Running.{leads_on, leads_answered, leads_heard}
-use Rattle.my_session.specs.Awaited.{greeting, decision, done}
+use Rattle.my_session.specs.Awaited.{greeting, decision, done, decision_fault, switch_fault}
 use Rattle.my_session.specs.Channel.{ChannelView, channel_wire}
 use Rattle.my_session.specs.Halt.{Halts, Unsaid, Stops, at_message, at_payload}
 use Rattle.my_session.specs.Heard.{HearsReply, HearsGreeting, HearsDecision, IsAskedToSwitch}
@@ -19,7 +24,30 @@ use Rattle.my_session.specs.Session.{Runs, IsCounted, LoginStopped, fresh}
 use Rattle.my_session.specs.Statements.{IsRun, RunAwaits, an_ok, RunSends}
 use Rattle.my_session.specs.Wire.{Wire, Step, answers, hears, Leads, ends, Takes, Sent}
 use Rattle.my_session.specs.declared.fault.SessionFault.{SessionFault}
+use Rattle.my_session.specs.declared.fault.SessionFault.TheVariants.{Link}
+use Rattle.my_session.specs.declared.login.Decision.{Decision}
 use Rattle.my_session.specs.declared.login.Decision.TheVariants.{Accepted, Switched}
+
+-- a message never says that the link failed
+switch_no_link : (place : ℕ) (found : Result Switch LoginFault) → switch_fault place found ≡ Some Link → ⊥
+switch_no_link place (Ok found) is = cc
+switch_no_link place (Err (NotTen version)) is = cc
+switch_no_link place (Err (Unsupported name)) is = cc
+switch_no_link place (Err (LoginRefused refusal)) is = cc
+switch_no_link place (Err LoginGarbled) is = cc
+
+decision_no_link : (place : ℕ) (message : List ℕ) (reply : Option Reply) → decision_fault place message reply ≡ Some Link → ⊥
+decision_no_link place message (Some Done) is = cc
+decision_no_link place message (Some (IsRefused refusal)) is = cc
+decision_no_link place message (Some (Columns columns)) is = switch_no_link place (switch_of message) is
+decision_no_link place message None is = switch_no_link place (switch_of message) is
+
+pub decision_counted : (before now place : ℕ) (message : List ℕ) (result : Result Decision SessionFault) (Is : Decision → Type 0) → before ≤ now → MatchResult result Is (λ fault. decision_fault place message (reply_of message) ≡ Some fault) → IsCounted before now result
+decision_counted before now place message (Ok found) Is later judged = record { later = later; failed = λ e. absurd (cc) }
+decision_counted before now place message (Err fault) Is later judged = record {
+  later = later;
+  failed = λ e. let same : fault ≡ Link = cc in absurd (decision_no_link place message (reply_of message) (judged ∙ ap (λ (f : SessionFault). Some f) same));
+}
 
 module _ (user password : List ℕ) where
   -- the greeting

@@ -1,7 +1,8 @@
 -- A message that is taken off a link piece by piece.
-use Rattle.std.proofs.Common.{◌≡◌, ◌≤◌, ◌<◌, ◌+◌, ◌-◌, ◌*◌, ◌^◌, ◌↔◌, ℕ, Bool, true, false, List, [], ◌++◌, length, take, refl, sym, ◌∙◌, ap, subst, inl, inr, arith, append_assoc, length-append, Result, Ok, Err, OnOk, OnErr}
-use Rattle.std.proofs.lemmas.List.{append-nil}
-use Rattle.link_traits.specs.Link.{stream}
+use Rattle.std.proofs.Common.{◌≡◌, ◌≤◌, ◌<◌, ◌+◌, ◌-◌, ◌*◌, ◌^◌, ◌↔◌, ℕ, Bool, true, false, List, [], ◌++◌, length, take, refl, sym, ◌∙◌, ap, subst, inl, inr, arith, append_assoc, length-append, Result, Ok, Err, OnOk, OnErr, IsErr, ◌≢◌}
+use Rattle.std.proofs.lemmas.List.{append-nil, length-take-le, take-append-le}
+use Rattle.honest_server.specs.Link.{Receives as TakesServed}
+use Rattle.link_traits.specs.Link.{Receives, stream}
 use Rattle.link_traits.specs.declared.link.Link.{Ghosts}
 use Rattle.my_packets.proofs.Fronts.{one_front}
 use Rattle.my_packets.proofs.Packets.{packets_length}
@@ -13,10 +14,14 @@ use Rattle.my_packets.specs.Unread.{Unread}
 use Rattle.my_packets.specs.declared.frames.FrameFault.{FrameFault}
 use Rattle.my_packets.specs.declared.frames.FrameFault.TheVariants.{BadSequence, TooLong as FrameTooLong}
 use Rattle.my_session.proofs.Exact.{exact_at_first, exact_behind}
+use Rattle.my_session.proofs.Links.{taken_off, recv_alive, recv_gives}
+use Rattle.my_session.proofs.Payloads.{part_is_not_all}
+use Rattle.my_session.proofs.Staying.{stays_begin, stays_on}
 use Rattle.my_session.proofs.Within.{wrong_within, full_within}
 use Rattle.my_session.specs.Channel.{wire_at}
 use Rattle.my_session.specs.Halt.{Misheard}
 use Rattle.my_session.specs.Receiving.{Fetches, Gathers, IsExact, Unfetched, Unsettled}
+use Rattle.my_session.specs.Serving.{IsServing, MessageWaits, Stays, Gives, Delivers}
 use Rattle.my_session.specs.Wire.{Hears, IsOnward, within}
 use Rattle.my_session.specs.declared.fault.SessionFault.{SessionFault}
 use Rattle.my_session.specs.declared.fault.SessionFault.TheVariants.{Link, Refused, Garbled, NotProtocol10, PluginUnsupported, TooLong, StreamTooLong, OutOfMemory}
@@ -38,8 +43,27 @@ settled_waits_not old new true wants is steps = absurd (cc)
 settled_waits_not old new false wants is waits = settled_is_no_part old.limit old.id waits.more old.bytes wants waits.part
 
 module _ {L : Type 0} (of : Ghosts L) where
-  pub gathers_none : (link : L) (frames : Unread) (taken : ℕ) → frames.bytes ≡ [] → Gathers of link link frames frames taken taken
-  gathers_none link frames taken none =
+  -- a piece that was taken off a link
+  pub fetches_piece : (old new : L) (E : Type 0) (wants : ℕ) (before now : Unread) (taken count : ℕ) (buffer rest : List ℕ) → (of.tells old → Receives {E = E} (of.told old) buffer (Ok count) (of.told new)) → (of.honest old → (of.served old).failed ≡ true → IsErr {T = ℕ} {E = E} (Ok count) × (of.served new ≡ of.served old)) → (of.honest old → (of.served old).failed ≡ false → TakesServed {E = E} (of.served old) buffer (Ok count) (of.served new))
+      → now ≡ record before { message = []; bytes = before.bytes ++ take count (buffer ++ rest) } → 0 < count → count ≤ length buffer → length buffer ≤ wants
+      → Fetches of wants old new before now taken (taken + count)
+  fetches_piece old new E wants before now taken count buffer rest received dead served now_is some fits few =
+      let is : take count (buffer ++ rest) ≡ take count buffer = take-append-le count buffer rest fits in
+      let size : length (take count buffer) ≡ count = length-take-le count buffer fits in
+      let same : length (take count (buffer ++ rest)) ≡ length (take count buffer) = ap (λ (l : List ℕ). length l) is in
+      record {
+        piece = take count (buffer ++ rest);
+        some = omega arith;
+        fits = omega arith;
+        frames = now_is;
+        taken = omega arith;
+        stream = λ t. taken_off of old new E count buffer received t ∙ ap (λ (l : List ℕ). l ++ stream (of.told new)) (sym is);
+        was_alive = recv_alive of old new E buffer count dead;
+        gives = λ h. subst (λ (l : List ℕ). Gives of l old new) (sym is) (recv_gives of old new E buffer count dead served h);
+      }
+
+  pub gathers_none : ((one : L) → of.same_origin one one) → (link : L) (frames : Unread) (taken : ℕ) → frames.bytes ≡ [] → Gathers of link link frames frames taken taken
+  gathers_none begins link frames taken none =
       let size : length frames.bytes ≡ 0 = ap (λ (l : List ℕ). length l) none in
       record {
         tells = (λ t. t, λ t. t);
@@ -51,11 +75,14 @@ module _ {L : Type 0} (of : Ghosts L) where
         exact = exact_at_first frames.limit frames.id frames.bytes none;
         sent = λ t. refl;
         stream = λ t. ap (λ (l : List ℕ). l ++ stream (of.told link)) none;
+        stays = stays_begin of begins link;
+        was_alive = λ some. absurd (omega arith);
+        gives = λ serving. record { alive = serving.alive; state = refl; waits = ap (λ (l : List ℕ). l ++ (of.served link).waiting) (sym none) };
       }
 
-  pub gathers_more : (start link next : L) (first frames now : Unread) (wants taken_first taken taken_now : ℕ) → Gathers of start link first frames taken_first taken → 0 < wants → Wants frames.limit frames.id frames.bytes wants
-      → (of.tells link ↔ of.tells next) → of.faults link ≤ of.faults next → (of.tells link → (of.told next).sent ≡ (of.told link).sent) → Fetches of wants link next frames now taken taken_now → Gathers of start next first now taken_first taken_now
-  gathers_more start link next first frames now wants taken_first taken taken_now gathers some wanted tells later sent fetches =
+  pub gathers_more : ((one next last : L) → of.same_origin one next → of.same_origin next last → of.same_origin one last) → (start link next : L) (first frames now : Unread) (wants taken_first taken taken_now : ℕ) → Gathers of start link first frames taken_first taken → 0 < wants → Wants frames.limit frames.id frames.bytes wants
+      → (of.tells link ↔ of.tells next) → of.faults link ≤ of.faults next → (of.tells link → (of.told next).sent ≡ (of.told link).sent) → Stays of link next → Fetches of wants link next frames now taken taken_now → Gathers of start next first now taken_first taken_now
+  gathers_more joins start link next first frames now wants taken_first taken taken_now gathers some wanted tells later sent stays fetches =
       let same = fetches.frames in
       let bytes_are : now.bytes ≡ frames.bytes ++ fetches.piece = ap (λ (u : Unread). u.bytes) same in
       let all = length-append frames.bytes fetches.piece in
@@ -77,7 +104,27 @@ module _ {L : Type 0} (of : Ghosts L) where
             exact_behind frames.limit frames.id wants frames.bytes fetches.piece (wanted.part some) fetches.fits)));
         sent = λ t. sent (gathers.tells.0 t) ∙ gathers.sent t;
         stream = λ t. ap (λ (l : List ℕ). l ++ stream (of.told next)) bytes_are ∙ append_assoc frames.bytes fetches.piece (stream (of.told next)) ∙ ap (λ (l : List ℕ). frames.bytes ++ l) (sym (fetches.stream (gathers.tells.0 t))) ∙ gathers.stream t;
+        stays = stays_on of joins start link next gathers.stays stays;
+        was_alive = λ some h. gathers.stays.back h (fetches.was_alive (gathers.stays.honest.0 h));
+        gives = λ serving.
+            let first_gives = gathers.gives serving in
+            let piece_gives = fetches.gives (gathers.stays.honest.0 serving.honest) in
+            record {
+              alive = piece_gives.alive;
+              state = piece_gives.state ∙ first_gives.state;
+              waits = first_gives.waits ∙ ap (λ (l : List ℕ). frames.bytes ++ l) piece_gives.waits ∙ sym (append_assoc frames.bytes fetches.piece (of.served next).waiting) ∙ ap (λ (l : List ℕ). l ++ (of.served next).waiting) (sym bytes_are);
+            };
       }
+
+  -- where a whole message waited at the start, some of it waits as long as it isn't whole
+  pub gathered_waits : (start link : L) (first frames : Unread) (taken_first taken wants : ℕ) → Gathers of start link first frames taken_first taken → (IsServing of start → MessageWaits first.id (of.served start).waiting) → 0 < wants → Wants frames.limit frames.id frames.bytes wants
+      → IsServing of link → (of.served link).waiting ≢ []
+  gathered_waits start link first frames taken_first taken wants gathers waits some wanted serving none =
+      let before : IsServing of start = record { honest = gathers.stays.honest.1 serving.honest; alive = gathers.stays.back (gathers.stays.honest.1 serving.honest) serving.alive } in
+      let message = waits before in
+      part_is_not_all frames.limit frames.id wants message.message frames.bytes message.behind
+      (sym (append-nil frames.bytes) ∙ ap (λ (l : List ℕ). frames.bytes ++ l) (sym none) ∙ sym (gathers.gives before).waits ∙ message.waits ∙ ap (λ (n : ℕ). packets n message.message ++ message.behind) (sym gathers.id))
+      (wanted.part some)
 
   module _ (start link : L) (first frames : Unread) (taken_first taken : ℕ) (gathers : Gathers of start link first frames taken_first taken) (limited : first.limit ≡ 67108864) (inside : taken ≤ 2 ^ 62) where
     ends_exactly : (new : Unread) → Passes frames new → new.bytes ≡ []
@@ -124,6 +171,18 @@ module _ {L : Type 0} (of : Ghosts L) where
           within = inside;
           id = passes.id ∙ ap (λ (n : ℕ). id_behind (packet_count (length new.message)) n) gathers.id;
           sent = gathers.sent t;
+        }
+
+    pub gathered_alive : (new : Unread) → Passes frames new → of.honest start → (of.served start).failed ≡ false
+    gathered_alive new passes = let size = whole_size new passes in gathers.was_alive (omega arith)
+
+    pub gathered_delivers : (new : Unread) → Passes frames new → IsServing of start → Delivers of new.message start first.id link new.id
+    gathered_delivers new passes serving =
+        let gives = gathers.gives serving in
+        let bytes_are : frames.bytes ≡ packets frames.id new.message = passes.message.bytes_are ∙ ap (λ (l : List ℕ). packets frames.id new.message ++ l) (ends_exactly new passes) ∙ append-nil (packets frames.id new.message) in
+        record {
+          gives = record { alive = gives.alive; state = gives.state; waits = gives.waits ∙ ap (λ (l : List ℕ). l ++ (of.served link).waiting) (bytes_are ∙ ap (λ (n : ℕ). packets n new.message) gathers.id) };
+          id = passes.id ∙ ap (λ (n : ℕ). id_behind (packet_count (length new.message)) n) gathers.id;
         }
 
     wrong_here : (fault : FrameFault) → IsWrong frames.limit frames.id frames.bytes fault → of.tells start → IsWrong 67108864 first.id (within (wire_at of start taken_first first.id)) fault

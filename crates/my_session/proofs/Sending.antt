@@ -1,8 +1,17 @@
 -- What sending does to what is still to be heard.
-use Rattle.std.proofs.Common.{◌≡◌, ◌<◌, ◌≤◌, List, [], ◌∷◌, ◌++◌, ℕ, length, arith, refl, ◌∙◌, ap, append_assoc}
+use Rattle.std.proofs.Common.{◌≡◌, ◌<◌, ◌≤◌, ◌+◌, ◌%◌, List, [], ◌∷◌, ◌++◌, ℕ, false, length, arith, refl, sym, ◌∙◌, ap, subst, append_assoc, Result, Ok, Err, OnOk}
+use Rattle.honest_server.specs.Link.{IsAnswered, IsNoCreate}
+use Rattle.honest_server.specs.Exchange.{BeginsAt, IsLoggingIn, IsWholeMessage}
+use Rattle.honest_server.specs.Moves.{plainly}
+use Rattle.honest_server.specs.State.{Phase, greeted, switching, in_session, over}
 use Rattle.my_packets.proofs.Packets.{short_packets}
-use Rattle.my_packets.specs.Packet.{packet, packets}
+use Rattle.my_packets.specs.Packet.{packet, packets, packet_count, id_behind}
 use Rattle.link_traits.specs.Link.{Told, stream, joined, first, others, answered}
+use Rattle.link_traits.specs.declared.link.Link.{Ghosts}
+use Rattle.my_session.proofs.Links.{replied}
+use Rattle.my_session.proofs.Payloads.{no_create}
+use Rattle.my_session.specs.Serving.{MakesNoObject, Replied}
+use Rattle.my_session.specs.declared.fault.SessionFault.{SessionFault}
 
 all_joined : (lists : List (List ℕ)) → first lists ++ joined (others lists) ≡ joined lists
 all_joined [] = refl
@@ -16,3 +25,54 @@ stream_answered told now message is =
 -- a short payload is one packet
 pub short_is_sent : (id : ℕ) (payload : List ℕ) → id < 256 → length payload ≤ 1001 → packets id payload ≡ packet id payload
 short_is_sent id payload byte short = short_packets id payload byte (omega arith)
+
+-- a command's packets begin at 0, and those of a login anywhere
+pub begins_command : (phase : Phase) → BeginsAt phase 0
+begins_command greeted = tt
+begins_command switching = tt
+begins_command in_session = refl
+begins_command over = tt
+
+pub begins_login : (phase here : Phase) (id : ℕ) → here ≡ phase → IsLoggingIn phase → BeginsAt here id
+begins_login greeted here id is logging = subst (λ (p : Phase). BeginsAt p id) (sym is) tt
+begins_login switching here id is logging = subst (λ (p : Phase). BeginsAt p id) (sym is) tt
+begins_login in_session here id is logging = absurd logging
+begins_login over here id is logging = absurd logging
+
+-- the packets of a payload are a whole message
+pub is_whole : (phase : Phase) (id : ℕ) (payload bytes : List ℕ) → bytes ≡ packets id payload → BeginsAt phase id → IsWholeMessage phase bytes
+is_whole phase id payload bytes is begins = (payload, record { id = id; begins = begins; message_is = is })
+
+pub short_is_whole : (phase : Phase) (id : ℕ) (payload bytes : List ℕ) → id < 256 → length payload ≤ 1001 → bytes ≡ packet id payload → BeginsAt phase id → IsWholeMessage phase bytes
+short_is_whole phase id payload bytes byte short is begins = is_whole phase id payload bytes (is ∙ sym (short_is_sent id payload byte short)) begins
+
+-- COM_QUIT is one in a session
+pub quit_is_whole : (phase : Phase) → phase ≡ in_session → IsWholeMessage phase (1 ∷ 0 ∷ 0 ∷ 0 ∷ 1 ∷ [])
+quit_is_whole phase is = subst (λ (p : Phase). IsWholeMessage p (1 ∷ 0 ∷ 0 ∷ 0 ∷ 1 ∷ [])) (sym is) (short_is_whole in_session 0 (1 ∷ []) (1 ∷ 0 ∷ 0 ∷ 0 ∷ 1 ∷ []) (omega arith) (omega arith) refl refl)
+
+-- what isn't the payload of an object's text isn't sent as one
+pub makes_none : (id : ℕ) (payload bytes : List ℕ) → bytes ≡ packets id payload → MakesNoObject payload → IsNoCreate bytes
+makes_none id payload bytes is none = subst (λ (l : List ℕ). IsNoCreate l) (sym is) (no_create id payload none)
+
+pub short_makes_none : (id : ℕ) (payload bytes : List ℕ) → id < 256 → length payload ≤ 1001 → bytes ≡ packet id payload → MakesNoObject payload → IsNoCreate bytes
+short_makes_none id payload bytes byte short is none = makes_none id payload bytes (is ∙ sym (short_is_sent id payload byte short)) none
+
+-- neither is COM_QUIT
+quits_nothing : MakesNoObject (1 ∷ [])
+quits_nothing text is head = cc
+
+pub quit_makes_none : IsNoCreate (1 ∷ 0 ∷ 0 ∷ 0 ∷ 1 ∷ [])
+quit_makes_none = short_makes_none 0 (1 ∷ []) (1 ∷ 0 ∷ 0 ∷ 0 ∷ 1 ∷ []) (omega arith) (omega arith) refl quits_nothing
+
+-- what is answered to the packets of a payload is answered to it
+module _ {L : Type 0} (of : Ghosts L) (old new : L) (id next : ℕ) (payload bytes : List ℕ) where
+  pub said : bytes ≡ packets id payload → next ≡ id_behind (packet_count (length payload)) id → (of.honest old → (of.served old).failed ≡ false) → (of.honest old → IsAnswered plainly (of.served old) bytes (of.served new)) → of.honest old → Replied of payload old new next
+  said bytes_are next_is alive answered h =
+      subst (λ (n : ℕ). Replied of payload old new n) (sym next_is)
+      (replied of old new id payload (subst (λ (l : List ℕ). IsAnswered plainly (of.served old) l (of.served new)) bytes_are (answered h)) (alive h))
+
+module _ {L : Type 0} (of : Ghosts L) (old new : L) (id now next : ℕ) (payload bytes : List ℕ) where
+  pub short_said : (result : Result (Unit {0}) SessionFault) → id < 256 → length payload ≤ 1001 → bytes ≡ packet id payload → next ≡ (id + 1) % 256 → OnOk result (now ≡ next) → OnOk result (of.honest old → (of.served old).failed ≡ false) → OnOk result (of.honest old → IsAnswered plainly (of.served old) bytes (of.served new))
+      → OnOk result (of.honest old → Replied of payload old new now)
+  short_said (Ok sent) byte short is next_is here alive answered = said of old new id now payload bytes (is ∙ sym (short_is_sent id payload byte short)) (here ∙ next_is ∙ (omega arith)) alive answered
+  short_said (Err fault) byte short is next_is here alive answered = tt

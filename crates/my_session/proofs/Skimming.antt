@@ -1,7 +1,8 @@
 -- A message that is taken off a link piece by piece, of which the front is kept.
-use Rattle.std.proofs.Common.{◌≡◌, ◌≤◌, ◌<◌, ◌+◌, ◌-◌, ◌*◌, ◌/◌, ◌^◌, ◌↔◌, ℕ, List, [], ◌++◌, length, take, refl, sym, ◌∙◌, ap, subst, arith, append_assoc, length-append, None, Ok, Err}
+use Rattle.std.proofs.Common.{◌≡◌, ◌≤◌, ◌<◌, ◌+◌, ◌-◌, ◌*◌, ◌/◌, ◌^◌, ◌↔◌, ◌≢◌, ℕ, true, false, List, [], ◌++◌, length, take, refl, sym, ◌∙◌, ap, subst, arith, append_assoc, length-append, None, Ok, Err, IsErr}
 use Rattle.std.proofs.lemmas.List.{append-nil, length-take-le, take-append-le}
-use Rattle.link_traits.specs.Link.{Receives, stream, joined}
+use Rattle.honest_server.specs.Link.{Receives as TakesServed}
+use Rattle.link_traits.specs.Link.{Receives, stream}
 use Rattle.link_traits.specs.declared.link.Link.{Ghosts}
 use Rattle.my_packets.proofs.Packets.{packets_length}
 use Rattle.my_packets.specs.Begins.{IsWrong}
@@ -13,10 +14,14 @@ use Rattle.my_packets.specs.declared.frames.FrameFault.{FrameFault}
 use Rattle.my_packets.specs.declared.frames.FrameFault.TheVariants.{BadSequence, TooLong as FrameTooLong}
 use Rattle.my_packets.specs.declared.skim.Stage.{Stage}
 use Rattle.my_packets.specs.declared.skim.Stage.TheVariants.{Header, Packet, Whole, Wrong}
+use Rattle.my_session.proofs.Links.{taken_off, recv_gives}
+use Rattle.my_session.proofs.Payloads.{part_is_not_all}
+use Rattle.my_session.proofs.Staying.{stays_begin, stays_on}
 use Rattle.my_session.proofs.Within.{wrong_within, full_within}
 use Rattle.my_session.specs.Channel.{wire_at, packets_within, Skimmed as Skimming}
 use Rattle.my_session.specs.Halt.{Misheard}
 use Rattle.my_session.specs.Receiving.{Sips, Spoils, Drains, Unsipped}
+use Rattle.my_session.specs.Serving.{IsServing, MessageWaits, Stays, Gives, DeliversFront}
 use Rattle.my_session.specs.Wire.{within}
 use Rattle.my_session.specs.declared.fault.SessionFault.{SessionFault}
 use Rattle.my_session.specs.declared.fault.SessionFault.TheVariants.{Link, Refused, Garbled, NotProtocol10, PluginUnsupported, TooLong, StreamTooLong, OutOfMemory}
@@ -33,15 +38,10 @@ counted_by : (size count bytes : ℕ) → count ≡ size / 16777215 + 1 → byte
 counted_by size count bytes count_is bytes_is = omega arith
 
 module _ {L : Type 0} (of : Ghosts L) where
-  -- a piece that was taken off a link
-  taken_off : (old new : L) (E : Type 0) (count : ℕ) (buffer : List ℕ) → (of.tells old → Receives {E = E} (of.told old) buffer (Ok count) (of.told new)) → of.tells old → stream (of.told old) ≡ take count buffer ++ stream (of.told new)
-  taken_off old new E count buffer received t =
-      let off = (received t).ok in
-      ap (λ (l : List ℕ). l ++ joined (of.told old).coming) off.bytes ∙ append_assoc (take count buffer) (of.told new).waiting (joined (of.told old).coming) ∙ ap (λ (c : List (List ℕ)). take count buffer ++ ((of.told new).waiting ++ joined c)) (sym off.coming)
-
-  pub sips_piece : (old new : L) (E : Type 0) (before now : Skimmed) (done : Unit {0}) (taken count : ℕ) (buffer rest : List ℕ) → (of.tells old → Receives {E = E} (of.told old) buffer (Ok count) (of.told new)) → Feeds before (take count (buffer ++ rest)) (Ok done) now → 0 < count → count ≤ length buffer
+  pub sips_piece : (old new : L) (E : Type 0) (before now : Skimmed) (done : Unit {0}) (taken count : ℕ) (buffer rest : List ℕ) → (of.tells old → Receives {E = E} (of.told old) buffer (Ok count) (of.told new)) → (of.honest old → (of.served old).failed ≡ true → IsErr {T = ℕ} {E = E} (Ok count) × (of.served new ≡ of.served old)) → (of.honest old → (of.served old).failed ≡ false → TakesServed {E = E} (of.served old) buffer (Ok count) (of.served new))
+      → Feeds before (take count (buffer ++ rest)) (Ok done) now → 0 < count → count ≤ length buffer
       → Sips of old new before now taken (taken + count)
-  sips_piece old new E before now done taken count buffer rest received feeds some fits =
+  sips_piece old new E before now done taken count buffer rest received dead served feeds some fits =
       let is : take count (buffer ++ rest) ≡ take count buffer = take-append-le count buffer rest fits in
       let size : length (take count buffer) ≡ count = length-take-le count buffer fits in
       let same : length (take count (buffer ++ rest)) ≡ length (take count buffer) = ap (λ (l : List ℕ). length l) is in
@@ -51,7 +51,8 @@ module _ {L : Type 0} (of : Ghosts L) where
         follows = feeds.follows;
         right = feeds.stands;
         taken = omega arith;
-        stream = λ t. taken_off old new E count buffer received t ∙ ap (λ (l : List ℕ). l ++ stream (of.told new)) (sym is);
+        stream = λ t. taken_off of old new E count buffer received t ∙ ap (λ (l : List ℕ). l ++ stream (of.told new)) (sym is);
+        gives = λ h. subst (λ (l : List ℕ). Gives of l old new) (sym is) (recv_gives of old new E buffer count dead served h);
       }
 
   pub spoils_piece : (old new : L) (E : Type 0) (before now : Skimmed) (fault : FrameFault) (taken count : ℕ) (buffer rest : List ℕ) → (of.tells old → Receives {E = E} (of.told old) buffer (Ok count) (of.told new)) → Feeds before (take count (buffer ++ rest)) (Err fault) now → count ≤ length buffer → taken + count ≤ 2 ^ 62
@@ -64,11 +65,11 @@ module _ {L : Type 0} (of : Ghosts L) where
         piece = take count (buffer ++ rest);
         within = omega arith;
         wrong = feeds.wrong;
-        stream = λ t. taken_off old new E count buffer received t ∙ ap (λ (l : List ℕ). l ++ stream (of.told new)) (sym is);
+        stream = λ t. taken_off of old new E count buffer received t ∙ ap (λ (l : List ℕ). l ++ stream (of.told new)) (sym is);
       }
 
-  pub drains_none : (link : L) (seq taken : ℕ) (skim : Skimmed) → Skims seq 67108864 [] skim → fault_of skim ≡ None → Drains of link link seq skim taken taken
-  drains_none link seq taken skim skims right = record {
+  pub drains_none : ((one : L) → of.same_origin one one) → (link : L) (seq taken : ℕ) (skim : Skimmed) → Skims seq 67108864 [] skim → fault_of skim ≡ None → Drains of link link seq skim taken taken
+  drains_none begins link seq taken skim skims right = record {
     tells = (λ t. t, λ t. t);
     later = omega arith;
     fed = [];
@@ -77,11 +78,13 @@ module _ {L : Type 0} (of : Ghosts L) where
     taken = omega arith;
     sent = λ t. refl;
     stream = λ t. refl;
+    stays = stays_begin of begins link;
+    gives = λ serving. record { alive = serving.alive; state = refl; waits = refl };
   }
 
   module _ (start link : L) (seq taken_first taken : ℕ) (skim : Skimmed) (drains : Drains of start link seq skim taken_first taken) where
-    pub drains_more : (next : L) (now : Skimmed) (taken_now : ℕ) → (of.tells link ↔ of.tells next) → of.faults link ≤ of.faults next → (of.tells link → (of.told next).sent ≡ (of.told link).sent) → Sips of link next skim now taken taken_now → Drains of start next seq now taken_first taken_now
-    drains_more next now taken_now tells later sent sips =
+    pub drains_more : ((one next last : L) → of.same_origin one next → of.same_origin next last → of.same_origin one last) → (next : L) (now : Skimmed) (taken_now : ℕ) → (of.tells link ↔ of.tells next) → of.faults link ≤ of.faults next → (of.tells link → (of.told next).sent ≡ (of.told link).sent) → Stays of link next → Sips of link next skim now taken taken_now → Drains of start next seq now taken_first taken_now
+    drains_more joins next now taken_now tells later sent stays sips =
         let all = length-append drains.fed sips.piece in
         let before = drains.taken in
         let after = sips.taken in
@@ -95,7 +98,25 @@ module _ {L : Type 0} (of : Ghosts L) where
           taken = omega arith;
           sent = λ t. sent (drains.tells.0 t) ∙ drains.sent t;
           stream = λ t. append_assoc drains.fed sips.piece (stream (of.told next)) ∙ ap (λ (l : List ℕ). drains.fed ++ l) (sym (sips.stream (drains.tells.0 t))) ∙ drains.stream t;
+          stays = stays_on of joins start link next drains.stays stays;
+          gives = λ serving.
+              let first_gives = drains.gives serving in
+              let piece_gives = sips.gives (drains.stays.honest.0 serving.honest) in
+              record {
+                alive = piece_gives.alive;
+                state = piece_gives.state ∙ first_gives.state;
+                waits = first_gives.waits ∙ ap (λ (l : List ℕ). drains.fed ++ l) piece_gives.waits ∙ sym (append_assoc drains.fed sips.piece (of.served next).waiting);
+              };
         }
+
+    -- where a whole message waited at the start, some of it waits as long as it isn't whole
+    pub drained_waits : (wants : ℕ) → (IsServing of start → MessageWaits seq (of.served start).waiting) → 0 < wants → Wants 67108864 seq drains.fed wants → IsServing of link → (of.served link).waiting ≢ []
+    drained_waits wants waits some wanted serving none =
+        let before : IsServing of start = record { honest = drains.stays.honest.1 serving.honest; alive = drains.stays.back (drains.stays.honest.1 serving.honest) serving.alive } in
+        let message = waits before in
+        part_is_not_all 67108864 seq wants message.message drains.fed message.behind
+        (sym (append-nil drains.fed) ∙ ap (λ (l : List ℕ). drains.fed ++ l) (sym none) ∙ sym (drains.gives before).waits ∙ message.waits)
+        (wanted.part some)
 
     module _ (inside : taken ≤ 2 ^ 62) where
       module _ (wants : wanted skim ≡ 0) where
@@ -125,6 +146,21 @@ module _ {L : Type 0} (of : Ghosts L) where
                 within = inside;
                 id = ap (λ (n : ℕ). id_behind n seq) counts;
                 sent = drains.sent t;
+              };
+              skims = subst (λ (l : List ℕ). Skims seq 67108864 l skim) fed_is drains.skims;
+            }
+
+        pub drained_delivers : IsServing of start → DeliversFront of skim start seq link (id_behind (packets_within (taken - taken_first)) seq)
+        drained_delivers serving =
+            let size = fed_size in
+            let all = drains.taken in
+            let gives = drains.gives serving in
+            let counts : packets_within (taken - taken_first) ≡ packet_count (length read.message) = counted_by (length read.message) (packet_count (length read.message)) (taken - taken_first) refl (omega arith) in
+            record {
+              message = read.message;
+              delivers = record {
+                gives = record { alive = gives.alive; state = gives.state; waits = gives.waits ∙ ap (λ (l : List ℕ). l ++ (of.served link).waiting) fed_is };
+                id = ap (λ (n : ℕ). id_behind n seq) counts;
               };
               skims = subst (λ (l : List ℕ). Skims seq 67108864 l skim) fed_is drains.skims;
             }

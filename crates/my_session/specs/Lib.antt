@@ -1,4 +1,5 @@
 pub mod Wire
+pub mod Serving
 pub mod Channel
 pub mod Receiving
 pub mod Awaited
@@ -8,4 +9,5 @@ pub mod Login
 pub mod Heard
 pub mod Lead
 pub mod Session
+pub mod InStep
 pub mod Laws

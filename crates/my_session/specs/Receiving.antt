@@ -1,5 +1,5 @@
 -- How the bytes of a message are taken off a link.
-use Rattle.std.specs.Prelude.{ℕ, ◌≡◌, ◌<◌, ◌≤◌, ◌+◌, ◌^◌, ◌↔◌, List, [], ◌++◌, length, None}
+use Rattle.std.specs.Prelude.{ℕ, ◌≡◌, ◌<◌, ◌≤◌, ◌+◌, ◌^◌, ◌↔◌, false, List, [], ◌++◌, length, None}
 use Rattle.link_traits.specs.Link.{stream}
 use Rattle.link_traits.specs.declared.link.Link.{Ghosts}
 use Rattle.my_packets.specs.Begins.{IsWrong}
@@ -9,6 +9,7 @@ use Rattle.my_packets.specs.Skims.{Skims, fault_of}
 use Rattle.my_packets.specs.Unread.{Unread}
 use Rattle.my_packets.specs.declared.frames.FrameFault.{FrameFault}
 use Rattle.my_packets.specs.declared.frames.FrameFault.TheVariants.{BadSequence, TooLong as FrameTooLong}
+use Rattle.my_session.specs.Serving.{IsServing, Stays, Gives}
 use Rattle.my_session.specs.declared.fault.SessionFault.{SessionFault}
 use Rattle.my_session.specs.declared.fault.SessionFault.TheVariants.{Link, Refused, Garbled, NotProtocol10, PluginUnsupported, TooLong, StreamTooLong, OutOfMemory}
 
@@ -20,6 +21,8 @@ pub record Fetches {L : Type 0} (of : Ghosts L) (wants : ℕ) (old new : L) (bef
   pub frames : now ≡ record before { message = []; bytes = before.bytes ++ piece }
   pub taken : taken_now ≡ taken_before + length piece
   pub stream : of.tells old → stream (of.told old) ≡ piece ++ stream (of.told new)
+  pub was_alive : of.honest old → (of.served old).failed ≡ false
+  pub gives : of.honest old → Gives of piece old new
 
 -- why none were
 abbrev pub Unfetched : ℕ → SessionFault → Type 0
@@ -65,6 +68,9 @@ pub record Gathers {L : Type 0} (of : Ghosts L) (old new : L) (before now : Unre
   pub exact : IsExact before.limit before.id now.bytes
   pub sent : of.tells old → (of.told new).sent ≡ (of.told old).sent
   pub stream : of.tells old → now.bytes ++ stream (of.told new) ≡ stream (of.told old)
+  pub stays : Stays of old new
+  pub was_alive : 0 < length now.bytes → of.honest old → (of.served old).failed ≡ false
+  pub gives : IsServing of old → Gives of now.bytes old new
 
 -- some bytes of a message were taken off a link, which a skim read
 pub record Sips {L : Type 0} (of : Ghosts L) (old new : L) (before now : Skimmed) (taken_before taken_now : ℕ) : Type 0 where
@@ -74,6 +80,7 @@ pub record Sips {L : Type 0} (of : Ghosts L) (old new : L) (before now : Skimmed
   pub right : fault_of now ≡ None
   pub taken : taken_now ≡ taken_before + length piece
   pub stream : of.tells old → stream (of.told old) ≡ piece ++ stream (of.told new)
+  pub gives : of.honest old → Gives of piece old new
 
 -- with some bytes that were taken off the link a packet is wrong
 pub record Spoils {L : Type 0} (of : Ghosts L) (old new : L) (skim : Skimmed) (taken : ℕ) (fault : FrameFault) : Type 0 where
@@ -110,3 +117,5 @@ pub record Drains {L : Type 0} (of : Ghosts L) (old new : L) (seq : ℕ) (skim :
   pub taken : taken_now ≡ taken_before + length fed
   pub sent : of.tells old → (of.told new).sent ≡ (of.told old).sent
   pub stream : of.tells old → fed ++ stream (of.told new) ≡ stream (of.told old)
+  pub stays : Stays of old new
+  pub gives : IsServing of old → Gives of fed old new

@@ -1,20 +1,22 @@
 // A link, what is sent on it, and the messages that are heard on it.
-ghost use Rattle.std.specs.Prelude.{◌≡◌, ◌<◌, ◌≤◌, ◌↔◌, ◌+◌, ◌-◌, ◌++◌, ◌∷◌, ℕ, [], length, take, false, IfErr, IfOk, OnOk, OnErr, Err};
+ghost use Rattle.std.specs.Prelude.{◌≡◌, ◌≤◌, ◌<◌, ◌↔◌, ◌+◌, ◌++◌, ◌∷◌, [], length, take, false, IfErr, IfOk, OnOk, OnErr, Err};
+ghost use Rattle.honest_server.specs.Link.{IsAnswered, IsNoCreate};
+ghost use Rattle.honest_server.specs.Exchange.{BeginsAt, IsWholeMessage};
+ghost use Rattle.honest_server.specs.Moves.{plainly};
+ghost use Rattle.honest_server.specs.State.{in_session};
 ghost use Rattle.link_traits.specs.Link.{stream};
-ghost use Rattle.my_packets.specs.Front.{Wants};
-ghost use Rattle.my_packets.specs.Packet.{packet, id_behind};
-ghost use Rattle.my_packets.specs.Skims.{wanted};
-ghost use Rattle.my_packets.specs.Steps.{Passes};
-ghost use Rattle.my_session.specs.Channel.{ChannelView, channel_wire, wire_at, IsOfChannel, IsUnsent, Skimmed, packets_within};
+ghost use Rattle.my_packets.specs.Packet.{packet};
+ghost use Rattle.my_session.specs.Channel.{ChannelView, channel_wire, IsOfChannel, IsUnsent, Skimmed, packets_within};
 ghost use Rattle.my_session.specs.Halt.{Misheard, Silent, Unsaid};
-ghost use Rattle.my_session.specs.Receiving.{Fetches, Sips, Unfetched, Unsettled, Unsipped};
+ghost use Rattle.my_session.specs.Serving.{IsServing, Stays, MessageWaits, MakesNoObject, Delivers, DeliversFront, Replied};
 ghost use Rattle.my_session.specs.Session.{IsCounted, failed_by};
 ghost use Rattle.my_session.specs.Wire.{Hears, IsOnward, Sent};
 
 use crate::fault::SessionFault;
-use crate::limits::{MESSAGE_LIMIT, PIECE, SESSION_LIMIT, SHORT_PAYLOAD};
+use crate::limits::{MESSAGE_LIMIT, SHORT_PAYLOAD};
+use crate::receiving::{receive, skim_message};
 use link_traits::Link;
-use my_packets::{FrameFault, Frames, Message, Skim, frame_into, header};
+use my_packets::{Frames, Message, Skim, frame_into, header};
 use std::alloc::Global;
 use std::marker::Model;
 
@@ -47,168 +49,6 @@ impl<L> Model for Channel<L> {
     ghost invariant = { λ c. (c.taken ≤ 2 ^ 62) × (c.frames.limit ≡ 67108864) × (c.frames.place ≤ c.taken) × (c.has_failed ≡ false → c.frames.bytes ≡ []) };
 }
 
-// How many bytes to ask the link for, where so many are wanted and so many were received.
-fn room(wants: u32, taken: u64) -> usize
-    requires wants { 0 < wants }
-    requires within { taken ≤ SESSION_LIMIT }
-
-    ensures piece { result ≤ PIECE }
-    ensures wanted { result ≤ wants }
-    ensures within { taken + result ≤ SESSION_LIMIT }
-    ensures none { result ≡ 0 → taken ≡ SESSION_LIMIT }
-{
-    let left = (SESSION_LIMIT - taken).min(PIECE as u64) as usize;
-    left.min(wants as usize)
-}
-
-// Takes some bytes off the link, no more than are wanted.
-fn fetch<L: Link>(
-    link: &mut L,
-    frames: &mut Frames,
-    taken: &mut u64,
-    wants: u32,
-) -> Result<(), SessionFault>
-    requires wants { 0 < wants }
-    requires within { taken.old ≤ SESSION_LIMIT }
-    requires place { frames.old.place + length frames.old.bytes ≤ taken.old }
-
-    ensures tells { L.tells link.old ↔ L.tells link.new }
-    ensures counted { IsCounted (L.faults link.old) (L.faults link.new) result }
-    ensures within { taken.new ≤ SESSION_LIMIT }
-    ensures later { taken.old ≤ taken.new }
-    ensures place { frames.new.place ≡ frames.old.place }
-    ensures limit { frames.new.limit ≡ frames.old.limit }
-    ensures fetches { OnOk result (Fetches L.Link wants link.old link.new frames.old frames.new taken.old taken.new) }
-    ensures sent { L.tells link.old → (L.told link.new).sent ≡ (L.told link.old).sent }
-    ensures err { IfErr result (Unfetched taken.old) }
-{
-    let room = room(wants, *taken);
-    if room == 0 {
-        return Err(SessionFault::StreamTooLong);
-    }
-    let mut piece = [0; PIECE];
-    let count = match link.recv(&mut piece[..room]) {
-        Ok(count) => count,
-        Err(_) => return Err(SessionFault::Link),
-    };
-    if frames.feed(&piece[..count]).is_err() {
-        return Err(SessionFault::OutOfMemory);
-    }
-    *taken += count as u64;
-    Ok(())
-}
-
-// Reads the message that the bytes hold, or finds what is wrong with them.
-fn settle(frames: &mut Frames, began: u64) -> Result<(), SessionFault>
-    requires settled { Wants frames.old.limit frames.old.id frames.old.bytes 0 }
-
-    ensures ok { OnOk result (Passes frames.old frames.new) }
-    ensures err { IfErr result (Unsettled frames.old began) }
-    ensures same { OnErr result (frames.new ≡ frames.old) }
-{
-    match frames.step() {
-        Ok(true) => Ok(()),
-        Ok(false) => unreachable!(),
-        Err(FrameFault::BadSequence(_, _)) => Err(SessionFault::Garbled(began)),
-        Err(FrameFault::TooLong(size)) => Err(SessionFault::TooLong(size)),
-    }
-}
-
-// Takes the next message off the link.
-fn receive<L: Link>(link: &mut L, frames: &mut Frames, taken: &mut u64) -> Result<(), SessionFault>
-    requires empty { frames.old.bytes ≡ [] }
-    requires limit { frames.old.limit ≡ 67108864 }
-    requires place { frames.old.place ≤ taken.old }
-    requires within { taken.old ≤ SESSION_LIMIT }
-
-    ensures tells { L.tells link.old ↔ L.tells link.new }
-    ensures counted { IsCounted (L.faults link.old) (L.faults link.new) result }
-    ensures kind { IfErr result IsOfChannel }
-    ensures limit { frames.new.limit ≡ 67108864 }
-    ensures place { frames.new.place ≤ taken.new }
-    ensures within { taken.new ≤ SESSION_LIMIT }
-    ensures empty { OnOk result (frames.new.bytes ≡ []) }
-    ensures onward { OnOk result (IsOnward taken.old taken.new) }
-    ensures heard { OnOk result (L.tells link.old → Hears frames.new.message (wire_at L.Link link.old taken.old frames.old.id) (wire_at L.Link link.new taken.new frames.new.id)) }
-    ensures err { IfErr result (λ fault. L.tells link.old → Misheard (wire_at L.Link link.old taken.old frames.old.id) fault (wire_at L.Link link.new taken.new frames.new.id)) }
-{
-    let began = *taken;
-    'pieces: loop {
-        let wants = frames.wants();
-        if wants == 0 {
-            return settle(frames, began);
-        }
-        if let Err(fault) = fetch(link, frames, taken, wants) {
-            return Err(fault);
-        }
-    }
-}
-
-// Takes some bytes off the link, no more than the skim wants, and lets it read them.
-fn sip<L: Link>(
-    link: &mut L,
-    skim: &mut Skim,
-    taken: &mut u64,
-    wants: u32,
-    began: u64,
-) -> Result<(), SessionFault>
-    requires wants { 0 < wants }
-    requires wanted { wants ≡ wanted skim.old }
-    requires within { taken.old ≤ SESSION_LIMIT }
-
-    ensures tells { L.tells link.old ↔ L.tells link.new }
-    ensures counted { IsCounted (L.faults link.old) (L.faults link.new) result }
-    ensures within { taken.new ≤ SESSION_LIMIT }
-    ensures later { taken.old ≤ taken.new }
-    ensures sent { L.tells link.old → (L.told link.new).sent ≡ (L.told link.old).sent }
-    ensures sips { OnOk result (Sips L.Link link.old link.new skim.old skim.new taken.old taken.new) }
-    ensures err { IfErr result (Unsipped L.Link link.old link.new skim.old taken.old began) }
-{
-    let room = room(wants, *taken);
-    if room == 0 {
-        return Err(SessionFault::StreamTooLong);
-    }
-    let mut piece = [0; PIECE];
-    let count = match link.recv(&mut piece[..room]) {
-        Ok(count) => count,
-        Err(_) => return Err(SessionFault::Link),
-    };
-    *taken += count as u64;
-    match skim.feed(&piece[..count]) {
-        Ok(()) => Ok(()),
-        Err(FrameFault::BadSequence(_, _)) => Err(SessionFault::Garbled(began)),
-        Err(FrameFault::TooLong(size)) => Err(SessionFault::TooLong(size)),
-    }
-}
-
-// Takes the next message off the link, whose first packet has to have this sequence id, and keeps its
-// front.
-fn skim_message<L: Link>(link: &mut L, id: u8, taken: &mut u64) -> Result<Skim, SessionFault>
-    requires within { taken.old ≤ SESSION_LIMIT }
-
-    ensures tells { L.tells link.old ↔ L.tells link.new }
-    ensures counted { IsCounted (L.faults link.old) (L.faults link.new) result }
-    ensures kind { IfErr result IsOfChannel }
-    ensures memory { result ≡ Err SessionFault.OutOfMemory → ⊥ }
-    ensures within { taken.new ≤ SESSION_LIMIT }
-    ensures later { taken.old ≤ taken.new }
-    ensures size { OnOk result (4 ≤ taken.new - taken.old) }
-    ensures heard { IfOk result (λ skim. L.tells link.old → Skimmed skim (wire_at L.Link link.old taken.old id) (wire_at L.Link link.new taken.new (id_behind (packets_within (taken.new - taken.old)) id))) }
-    ensures err { IfErr result (λ fault. (now : ℕ) → L.tells link.old → Misheard (wire_at L.Link link.old taken.old id) fault (wire_at L.Link link.new taken.new now)) }
-{
-    let began = *taken;
-    let mut skim = Skim::new(id, MESSAGE_LIMIT);
-    'pieces: loop {
-        let wants = skim.wants();
-        if wants == 0 {
-            return Ok(skim);
-        }
-        if let Err(fault) = sip(link, &mut skim, taken, wants, began) {
-            return Err(fault);
-        }
-    }
-}
-
 // How many packets are so many bytes, where a message has no others.
 fn packets_within(bytes: u64) -> u64
     requires header { 4 ≤ bytes }
@@ -221,6 +61,12 @@ fn packets_within(bytes: u64) -> u64
 // Sends the packets of a payload.
 #[tactic(auto, using(crate::proofs::Sending::stream_answered))]
 fn send<L: Link>(link: &mut L, packets: &[u8]) -> Result<(), SessionFault>
+    requires whole { L.honest link.old → IsWholeMessage (L.served link.old).state.phase packets.now }
+    requires no_create { L.honest link.old → (L.served link.old).state.phase ≡ in_session → (L.served link.old).state.terms.sole ≡ false → IsNoCreate packets.now }
+
+    ensures stays { Stays L.Link link.old link.new }
+    ensures alive { OnOk result (L.honest link.old → (L.served link.old).failed ≡ false) }
+    ensures answered { OnOk result (L.honest link.old → IsAnswered plainly (L.served link.old) packets.now (L.served link.new)) }
     ensures tells { L.tells link.old ↔ L.tells link.new }
     ensures counted { IsCounted (L.faults link.old) (L.faults link.new) result }
     ensures fault { IfErr result (λ fault. fault ≡ SessionFault.Link) }
@@ -282,7 +128,12 @@ impl<L: Link> Channel<L> {
     /// Sends bytes that are the packets of a payload, behind which comes this id. Takes no memory.
     pub fn send_packets(&mut self, packets: &[u8], next_id: u8) -> Result<(), SessionFault>
         requires alive { self.old.has_failed ≡ false }
+        requires whole { L.honest self.old.link → IsWholeMessage (L.served self.old.link).state.phase packets.now }
+        requires no_create { L.honest self.old.link → (L.served self.old.link).state.phase ≡ in_session → (L.served self.old.link).state.terms.sole ≡ false → IsNoCreate packets.now }
 
+        ensures stays { Stays L.Link self.old.link self.new.link }
+        ensures served { OnOk result (L.honest self.old.link → (L.served self.old.link).failed ≡ false) }
+        ensures answered { OnOk result (L.honest self.old.link → IsAnswered plainly (L.served self.old.link) packets.now (L.served self.new.link)) }
         ensures tells { L.tells self.old.link ↔ L.tells self.new.link }
         ensures counted { IsCounted (L.faults self.old.link) (L.faults self.new.link) result }
         ensures failed { self.new.has_failed ≡ failed_by result }
@@ -306,11 +157,15 @@ impl<L: Link> Channel<L> {
     }
 
     // Sends a short payload in one packet. Takes no memory.
-    #[tactic(auto, using(crate::proofs::Sending::short_is_sent))]
+    #[tactic(auto, using(crate::proofs::Sending::short_is_sent, crate::proofs::Sending::short_is_whole))]
     fn say_short(&mut self, id: u8, payload: &[u8]) -> Result<(), SessionFault>
         requires alive { self.old.has_failed ≡ false }
         requires short { length payload.now ≤ SHORT_PAYLOAD }
+        requires begins { L.honest self.old.link → BeginsAt (L.served self.old.link).state.phase id }
+        requires no_create { L.honest self.old.link → (L.served self.old.link).state.phase ≡ in_session → (L.served self.old.link).state.terms.sole ≡ false → MakesNoObject payload.now }
 
+        ensures stays { Stays L.Link self.old.link self.new.link }
+        ensures replied { OnOk result (L.honest self.old.link → Replied L.Link payload.now self.old.link self.new.link self.new.id) }
         ensures tells { L.tells self.old.link ↔ L.tells self.new.link }
         ensures counted { IsCounted (L.faults self.old.link) (L.faults self.new.link) result }
         ensures failed { self.new.has_failed ≡ failed_by result }
@@ -327,7 +182,11 @@ impl<L: Link> Channel<L> {
     /// may be. Takes no memory where it has at most 1,001 bytes.
     pub fn say(&mut self, id: u8, payload: &[u8]) -> Result<(), SessionFault>
         requires alive { self.old.has_failed ≡ false }
+        requires begins { L.honest self.old.link → BeginsAt (L.served self.old.link).state.phase id }
+        requires no_create { L.honest self.old.link → (L.served self.old.link).state.phase ≡ in_session → (L.served self.old.link).state.terms.sole ≡ false → MakesNoObject payload.now }
 
+        ensures stays { Stays L.Link self.old.link self.new.link }
+        ensures replied { OnOk result (L.honest self.old.link → Replied L.Link payload.now self.old.link self.new.link self.new.id) }
         ensures tells { L.tells self.old.link ↔ L.tells self.new.link }
         ensures counted { IsCounted (L.faults self.old.link) (L.faults self.new.link) result }
         ensures failed { self.new.has_failed ≡ failed_by result }
@@ -350,7 +209,11 @@ impl<L: Link> Channel<L> {
     /// heard last. Refusals and memory are those of [`Channel::say`].
     pub fn answer(&mut self, payload: &[u8]) -> Result<(), SessionFault>
         requires alive { self.old.has_failed ≡ false }
+        requires begins { L.honest self.old.link → BeginsAt (L.served self.old.link).state.phase self.old.id }
+        requires no_create { L.honest self.old.link → (L.served self.old.link).state.phase ≡ in_session → (L.served self.old.link).state.terms.sole ≡ false → MakesNoObject payload.now }
 
+        ensures stays { Stays L.Link self.old.link self.new.link }
+        ensures replied { OnOk result (L.honest self.old.link → Replied L.Link payload.now self.old.link self.new.link self.new.id) }
         ensures tells { L.tells self.old.link ↔ L.tells self.new.link }
         ensures counted { IsCounted (L.faults self.old.link) (L.faults self.new.link) result }
         ensures failed { self.new.has_failed ≡ failed_by result }
@@ -366,7 +229,11 @@ impl<L: Link> Channel<L> {
     fn say_long(&mut self, id: u8, payload: &[u8]) -> Result<(), SessionFault>
         requires alive { self.old.has_failed ≡ false }
         requires within { length payload.now ≤ MESSAGE_LIMIT }
+        requires begins { L.honest self.old.link → BeginsAt (L.served self.old.link).state.phase id }
+        requires no_create { L.honest self.old.link → (L.served self.old.link).state.phase ≡ in_session → (L.served self.old.link).state.terms.sole ≡ false → MakesNoObject payload.now }
 
+        ensures stays { Stays L.Link self.old.link self.new.link }
+        ensures replied { OnOk result (L.honest self.old.link → Replied L.Link payload.now self.old.link self.new.link self.new.id) }
         ensures tells { L.tells self.old.link ↔ L.tells self.new.link }
         ensures counted { IsCounted (L.faults self.old.link) (L.faults self.new.link) result }
         ensures failed { self.new.has_failed ≡ failed_by result }
@@ -394,7 +261,11 @@ impl<L: Link> Channel<L> {
     /// Hears the next message; [`Channel::message`] lends it.
     pub fn hear(&mut self) -> Result<(), SessionFault>
         requires alive { self.old.has_failed ≡ false }
+        requires waits { IsServing L.Link self.old.link → MessageWaits self.old.id (L.served self.old.link).waiting }
 
+        ensures stays { Stays L.Link self.old.link self.new.link }
+        ensures served { OnOk result (L.honest self.old.link → (L.served self.old.link).failed ≡ false) }
+        ensures delivers { OnOk result (IsServing L.Link self.old.link → Delivers L.Link self.new.message self.old.link self.old.id self.new.link self.new.id) }
         ensures tells { L.tells self.old.link ↔ L.tells self.new.link }
         ensures counted { IsCounted (L.faults self.old.link) (L.faults self.new.link) result }
         ensures failed { self.new.has_failed ≡ failed_by result }
@@ -421,7 +292,10 @@ impl<L: Link> Channel<L> {
     /// Hears the next message and keeps its first 1,024 bytes. Takes no memory.
     pub fn skim(&mut self) -> Result<Skim, SessionFault>
         requires alive { self.old.has_failed ≡ false }
+        requires waits { IsServing L.Link self.old.link → MessageWaits self.old.id (L.served self.old.link).waiting }
 
+        ensures stays { Stays L.Link self.old.link self.new.link }
+        ensures delivers { IfOk result (λ skim. IsServing L.Link self.old.link → DeliversFront L.Link skim self.old.link self.old.id self.new.link self.new.id) }
         ensures tells { L.tells self.old.link ↔ L.tells self.new.link }
         ensures counted { IsCounted (L.faults self.old.link) (L.faults self.new.link) result }
         ensures failed { self.new.has_failed ≡ failed_by result }

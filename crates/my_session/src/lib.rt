@@ -8,6 +8,7 @@ mod laws;
 mod limits;
 mod login;
 mod reads;
+mod receiving;
 mod rows;
 mod run;
 mod session;

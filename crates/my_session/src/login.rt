@@ -1,7 +1,9 @@
 // Logging in.
 ghost use Rattle.std.specs.Prelude.{◌≡◌, ◌≤◌, ◌↔◌, ◌+◌, ℕ, List, length, false, Some, Ok, Err, IfErr, IfOk, OnOk, MatchResult, option_copied};
+ghost use Rattle.honest_server.specs.State.{greeted, switching, in_session};
 ghost use Rattle.my_login.specs.Response.{response};
 ghost use Rattle.my_login.specs.Switch.{switch_of};
+ghost use Rattle.result_rows.specs.Reading.{idle};
 ghost use Rattle.result_rows.specs.Reply.{reply_of};
 ghost use Rattle.sql_statements.specs.declared.command.Command.{Command};
 ghost use Rattle.sql_statements.specs.declared.command.Command.TheVariants.{SetUp};
@@ -9,7 +11,9 @@ ghost use Rattle.my_session.specs.Awaited.{greeting, decision, greeting_fault, d
 ghost use Rattle.my_session.specs.Channel.{channel_wire};
 ghost use Rattle.my_session.specs.Halt.{Halts, Stops, Unsaid};
 ghost use Rattle.my_session.specs.Heard.{HearsGreeting, HearsDecision, IsDecision, IsAskedToSwitch};
+ghost use Rattle.my_session.specs.InStep.{phase_behind, GreetingWaits, DecisionWaits, IsQuiet, IsOpen};
 ghost use Rattle.my_session.specs.Login.{password_answer, switch_answer, IsGreeted, IsAccepted, IsLoggedIn, LoginAwaits, LoginSends};
+ghost use Rattle.my_session.specs.Serving.{IsServing, Stays};
 ghost use Rattle.my_session.specs.Session.{IsCounted, Runs, failed_by};
 ghost use Rattle.my_session.specs.Wire.{Wire, Sent, Takes};
 
@@ -69,7 +73,11 @@ fn switch_fault(place: u64, fault: LoginFault) -> SessionFault
 // Hears the greeting.
 fn hear_greeting<L: Link>(channel: &mut Channel<L>) -> Result<Greeting, SessionFault>
     requires alive { channel.old.has_failed ≡ false }
+    requires first { channel.old.id ≡ 0 }
+    requires greeting { IsServing L.Link channel.old.link → GreetingWaits L.Link channel.old.link }
 
+    ensures stays { Stays L.Link channel.old.link channel.new.link }
+    ensures quiet { OnOk result (L.honest channel.new.link → IsQuiet L.Link greeted channel.new.link) }
     ensures tells { L.tells channel.old.link ↔ L.tells channel.new.link }
     ensures counted { IsCounted (L.faults channel.old.link) (L.faults channel.new.link) result }
     ensures alive { OnOk result (channel.new.has_failed ≡ false) }
@@ -94,7 +102,10 @@ fn respond<L: Link>(
     answer: Option<&[u8; 20]>,
 ) -> Result<(), SessionFault>
     requires alive { channel.old.has_failed ≡ false }
+    requires quiet { L.honest channel.old.link → IsQuiet L.Link greeted channel.old.link }
 
+    ensures stays { Stays L.Link channel.old.link channel.new.link }
+    ensures decision { OnOk result (L.honest channel.new.link → DecisionWaits L.Link channel.new.link channel.new.id) }
     ensures tells { L.tells channel.old.link ↔ L.tells channel.new.link }
     ensures counted { IsCounted (L.faults channel.old.link) (L.faults channel.new.link) result }
     ensures alive { OnOk result (channel.new.has_failed ≡ false) }
@@ -116,7 +127,11 @@ fn greet<L: Link>(
     password: &[u8],
 ) -> Result<(), SessionFault>
     requires alive { channel.old.has_failed ≡ false }
+    requires first { channel.old.id ≡ 0 }
+    requires greeting { IsServing L.Link channel.old.link → GreetingWaits L.Link channel.old.link }
 
+    ensures stays { Stays L.Link channel.old.link channel.new.link }
+    ensures decision { OnOk result (L.honest channel.new.link → DecisionWaits L.Link channel.new.link channel.new.id) }
     ensures tells { L.tells channel.old.link ↔ L.tells channel.new.link }
     ensures counted { IsCounted (L.faults channel.old.link) (L.faults channel.new.link) result }
     ensures alive { OnOk result (channel.new.has_failed ≡ false) }
@@ -162,7 +177,10 @@ fn read_decision(place: u64, payload: &[u8]) -> Result<Decision, SessionFault>
 // Hears what the server decides.
 fn hear_decision<L: Link>(channel: &mut Channel<L>) -> Result<Decision, SessionFault>
     requires alive { channel.old.has_failed ≡ false }
+    requires decision { L.honest channel.old.link → DecisionWaits L.Link channel.old.link channel.old.id }
 
+    ensures stays { Stays L.Link channel.old.link channel.new.link }
+    ensures quiet { IfOk result (λ found. L.honest channel.new.link → IsQuiet L.Link (phase_behind found) channel.new.link) }
     ensures tells { L.tells channel.old.link ↔ L.tells channel.new.link }
     ensures counted { IsCounted (L.faults channel.old.link) (L.faults channel.new.link) result }
     ensures alive { OnOk result (channel.new.has_failed ≡ false) }
@@ -183,7 +201,10 @@ fn answer_switch<L: Link>(
     switch: Switch,
 ) -> Result<(), SessionFault>
     requires alive { channel.old.has_failed ≡ false }
+    requires quiet { L.honest channel.old.link → IsQuiet L.Link switching channel.old.link }
 
+    ensures stays { Stays L.Link channel.old.link channel.new.link }
+    ensures quiet { OnOk result (L.honest channel.new.link → IsQuiet L.Link in_session channel.new.link) }
     ensures tells { L.tells channel.old.link ↔ L.tells channel.new.link }
     ensures counted { IsCounted (L.faults channel.old.link) (L.faults channel.new.link) result }
     ensures alive { OnOk result (channel.new.has_failed ≡ false) }
@@ -203,7 +224,10 @@ fn send_answer<L: Link>(
     answer: Option<&[u8; 20]>,
 ) -> Result<(), SessionFault>
     requires alive { channel.old.has_failed ≡ false }
+    requires quiet { L.honest channel.old.link → IsQuiet L.Link switching channel.old.link }
 
+    ensures stays { Stays L.Link channel.old.link channel.new.link }
+    ensures decision { OnOk result (L.honest channel.new.link → DecisionWaits L.Link channel.new.link channel.new.id) }
     ensures tells { L.tells channel.old.link ↔ L.tells channel.new.link }
     ensures counted { IsCounted (L.faults channel.old.link) (L.faults channel.new.link) result }
     ensures alive { OnOk result (channel.new.has_failed ≡ false) }
@@ -219,7 +243,10 @@ fn send_answer<L: Link>(
 // Hears that the login is accepted, over another scramble where the server asks for that.
 fn be_accepted<L: Link>(channel: &mut Channel<L>, password: &[u8]) -> Result<(), SessionFault>
     requires alive { channel.old.has_failed ≡ false }
+    requires decision { L.honest channel.old.link → DecisionWaits L.Link channel.old.link channel.old.id }
 
+    ensures stays { Stays L.Link channel.old.link channel.new.link }
+    ensures quiet { OnOk result (L.honest channel.new.link → IsQuiet L.Link in_session channel.new.link) }
     ensures tells { L.tells channel.old.link ↔ L.tells channel.new.link }
     ensures counted { IsCounted (L.faults channel.old.link) (L.faults channel.new.link) result }
     ensures alive { OnOk result (channel.new.has_failed ≡ false) }
@@ -236,7 +263,10 @@ fn be_accepted<L: Link>(channel: &mut Channel<L>, password: &[u8]) -> Result<(),
 // Reserves room for short payloads, and sets the session up.
 fn set_up<L: Link>(channel: &mut Channel<L>, payload: &mut Buffer) -> Result<(), SessionFault>
     requires alive { channel.old.has_failed ≡ false }
+    requires quiet { L.honest channel.old.link → IsQuiet L.Link in_session channel.old.link }
 
+    ensures stays { Stays L.Link channel.old.link channel.new.link }
+    ensures is_open { OnOk result (L.honest channel.new.link → IsOpen L.Link channel.new.link channel.new.id idle) }
     ensures tells { L.tells channel.old.link ↔ L.tells channel.new.link }
     ensures counted { IsCounted (L.faults channel.old.link) (L.faults channel.new.link) result }
     ensures alive { OnOk result (channel.new.has_failed ≡ false) }
@@ -258,7 +288,11 @@ pub(crate) fn log_in<L: Link>(
     password: &[u8],
 ) -> Result<(), SessionFault>
     requires alive { channel.old.has_failed ≡ false }
+    requires first { channel.old.id ≡ 0 }
+    requires greeting { IsServing L.Link channel.old.link → GreetingWaits L.Link channel.old.link }
 
+    ensures stays { Stays L.Link channel.old.link channel.new.link }
+    ensures is_open { OnOk result (L.honest channel.new.link → IsOpen L.Link channel.new.link channel.new.id idle) }
     ensures tells { L.tells channel.old.link ↔ L.tells channel.new.link }
     ensures counted { IsCounted (L.faults channel.old.link) (L.faults channel.new.link) result }
     ensures alive { OnOk result (channel.new.has_failed ≡ false) }

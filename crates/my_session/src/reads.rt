@@ -2,6 +2,7 @@
 ghost use Rattle.std.specs.Prelude.{◌≡◌, ◌<◌, ◌↔◌, ℕ, Bool, false, IfErr, IfOk, OnOk};
 ghost use Rattle.std.specs.Borrow.{sem};
 ghost use Rattle.std.specs.Io.BufRead.{Rests};
+ghost use Rattle.honest_server.specs.State.{Terms};
 ghost use Rattle.result_rows.specs.Reading.{idle};
 ghost use Rattle.sql_statements.specs.Statement.{QueryHasText};
 ghost use Rattle.my_session.specs.Session.{ReaderView, IsCounted, IsOfStatement, Asks, NextRow, PendingBehind, failed_by};
@@ -12,6 +13,15 @@ use sql_statements::Query;
 
 /// What all reading of a database goes through: a query is asked, and its rows come one by one.
 pub trait Reads {
+    /// Whether the server is honest.
+    ghost honest: { Self → Type 0 };
+
+    /// Both are of one site, and one may have become the other.
+    ghost same_origin: { Self → Self → Type 0 };
+
+    /// What is the same for its link's whole life, where the server is honest.
+    ghost terms: { Self → Terms };
+
     /// Whether it tells what goes over its link.
     ghost tells: { Self → Type 0 };
 
@@ -28,6 +38,9 @@ pub trait Reads {
         requires alive { (view self.old).has_failed ≡ false }
         requires none_pending { (view self.old).pending.reading ≡ idle }
 
+        ensures honest { honest self.old ↔ honest self.new }
+        ensures origin { same_origin self.old self.new }
+        ensures terms { honest self.old → terms self.new ≡ terms self.old }
         ensures tells { tells self.old ↔ tells self.new }
         ensures counted { IsCounted (view self.old).faults (view self.new).faults result }
         ensures failed { (view self.new).has_failed ≡ failed_by result }
@@ -45,5 +58,11 @@ pub trait Reads {
         requires pending { 0 < (view self.old).pending.reading.columns }
         requires rows { (view self.old).pending.reading.awaited ≡ 0 }
 
-        ensures* after { sem 𝓛 (Rests Self.row self.entry (λ new. NextRow (tells self.old) (view self.old) result (tells new) (view new))) };
+        ensures* after { sem 𝓛 (Rests Self.row self.entry (λ new. NextRow (tells self.old) (view self.old) result (tells new) (view new) × (honest self.old ↔ honest new) × same_origin self.old new × (honest self.old → terms new ≡ terms self.old))) };
+
+    /// A reader is of one origin with itself.
+    ghost origin_begins: { (one : Self) → same_origin one one };
+
+    /// What a reader becomes stays of one origin.
+    ghost origins_join: { (one next last : Self) → same_origin one next → same_origin next last → same_origin one last };
 }

@@ -1,5 +1,5 @@
 // Queries, and their rows.
-ghost use Rattle.std.specs.Prelude.{◌≡◌, ◌≤◌, ◌<◌, ◌↔◌, ◌+◌, ◌-◌, ℕ, length, false, Some, Ok, Err, IfErr, IfOk, OnOk, MatchResult, option_copied};
+ghost use Rattle.std.specs.Prelude.{◌≡◌, ◌≤◌, ◌<◌, ◌↔◌, ◌+◌, ◌-◌, ℕ, length, true, false, Some, Ok, Err, IfErr, IfOk, OnOk, MatchResult, option_copied};
 ghost use Rattle.result_rows.specs.Reading.{idle, counted, definition_if, further_of, after};
 ghost use Rattle.result_rows.specs.declared.reader.Reply.TheVariants.{Columns};
 ghost use Rattle.sql_statements.specs.Form.{query_form};
@@ -9,8 +9,10 @@ ghost use Rattle.my_session.specs.Awaited.{count, further};
 ghost use Rattle.my_session.specs.Channel.{channel_wire};
 ghost use Rattle.my_session.specs.Halt.{Halts, Stops, Unsaid};
 ghost use Rattle.my_session.specs.Heard.{HearsReply, HearsDefinition, IsBehindRow, Judges};
+ghost use Rattle.my_session.specs.InStep.{IsOpen, ReplyWaits};
 ghost use Rattle.my_session.specs.Lead.{lead_of};
-ghost use Rattle.my_session.specs.Session.{Asks, IsCounted, IsOfStatement, failed_by, rows_of};
+ghost use Rattle.my_session.specs.Serving.{Stays};
+ghost use Rattle.my_session.specs.Session.{Asks, IsCounted, IsOfStatement, ends_session, failed_by, rows_of};
 ghost use Rattle.my_session.specs.Statements.{IsLed, LeadAwaits, LeadSends, IsAsked, IsDescribed, QueryAwaits, QuerySends, query_payload};
 ghost use Rattle.my_session.specs.Wire.{Wire, Hears, IsOnward, Sent, Takes};
 
@@ -63,7 +65,10 @@ fn lead<L: Link>(
     query: &Query<'_>,
 ) -> Result<(), SessionFault>
     requires alive { channel.old.has_failed ≡ false }
+    requires is_open { L.honest channel.old.link → IsOpen L.Link channel.old.link channel.old.id idle }
 
+    ensures stays { Stays L.Link channel.old.link channel.new.link }
+    ensures is_open { failed_by result ≡ false → L.honest channel.new.link → IsOpen L.Link channel.new.link channel.new.id idle }
     ensures tells { L.tells channel.old.link ↔ L.tells channel.new.link }
     ensures counted { IsCounted (L.faults channel.old.link) (L.faults channel.new.link) result }
     ensures alive { failed_by result ≡ false → channel.new.has_failed ≡ false }
@@ -98,7 +103,7 @@ fn write_query(payload: &mut Buffer, query: &Query<'_>) -> Result<(), SessionFau
 }
 
 // Sends a query.
-#[tactic(auto, using(crate::proofs::Answering::channel_of_statement))]
+#[tactic(auto, using(crate::proofs::Answering::channel_of_statement, crate::proofs::Answering::channel_ends))]
 fn send_query<L: Link>(
     channel: &mut Channel<L>,
     payload: &mut Buffer,
@@ -106,7 +111,11 @@ fn send_query<L: Link>(
 ) -> Result<(), SessionFault>
     requires text { QueryHasText query.now }
     requires alive { channel.old.has_failed ≡ false }
+    requires is_open { L.honest channel.old.link → IsOpen L.Link channel.old.link channel.old.id idle }
 
+    ensures stays { Stays L.Link channel.old.link channel.new.link }
+    ensures replied { OnOk result (L.honest channel.new.link → ReplyWaits L.Link channel.new.link channel.new.id) }
+    ensures ends { IfErr result (λ fault. ends_session fault ≡ true) }
     ensures tells { L.tells channel.old.link ↔ L.tells channel.new.link }
     ensures counted { IsCounted (L.faults channel.old.link) (L.faults channel.new.link) result }
     ensures alive { failed_by result ≡ false → channel.new.has_failed ≡ false }
@@ -122,14 +131,18 @@ fn send_query<L: Link>(
 }
 
 // Hears the number of columns.
-#[tactic(auto, using(crate::proofs::Answering::halts_count, crate::proofs::Answering::misheard_halts, crate::proofs::Answering::channel_of_statement))]
+#[tactic(auto, using(crate::proofs::Answering::halts_count, crate::proofs::Answering::misheard_halts, crate::proofs::Answering::channel_of_statement, crate::proofs::Answering::channel_ends))]
 fn hear_count<L: Link>(
     channel: &mut Channel<L>,
     reader: &mut RowReader,
     form: Form,
 ) -> Result<u32, SessionFault>
     requires alive { channel.old.has_failed ≡ false }
+    requires waits { L.honest channel.old.link → ReplyWaits L.Link channel.old.link channel.old.id }
 
+    ensures stays { Stays L.Link channel.old.link channel.new.link }
+    ensures rest { IfOk result (λ columns. L.honest channel.new.link → IsOpen L.Link channel.new.link channel.new.id (counted columns)) }
+    ensures is_open { IfErr result (λ fault. ends_session fault ≡ false → L.honest channel.new.link → IsOpen L.Link channel.new.link channel.new.id idle) }
     ensures tells { L.tells channel.old.link ↔ L.tells channel.new.link }
     ensures counted { IsCounted (L.faults channel.old.link) (L.faults channel.new.link) result }
     ensures alive { failed_by result ≡ false → channel.new.has_failed ≡ false }
@@ -176,7 +189,11 @@ fn hear_definition<L: Link>(
     requires alive { channel.old.has_failed ≡ false }
     requires pending { 0 < reader.old.columns }
     requires awaited { 0 < reader.old.awaited }
+    requires rest { L.honest channel.old.link → IsOpen L.Link channel.old.link channel.old.id reader.old }
 
+    ensures stays { Stays L.Link channel.old.link channel.new.link }
+    ensures rest { OnOk result (L.honest channel.new.link → IsOpen L.Link channel.new.link channel.new.id reader.new) }
+    ensures ends { IfErr result (λ fault. ends_session fault ≡ true) }
     ensures tells { L.tells channel.old.link ↔ L.tells channel.new.link }
     ensures counted { IsCounted (L.faults channel.old.link) (L.faults channel.new.link) result }
     ensures alive { failed_by result ≡ false → channel.new.has_failed ≡ false }
@@ -206,7 +223,11 @@ fn describe<L: Link>(
     requires some { 0 < columns }
     requires few { columns < 65536 }
     requires reader { reader.old ≡ counted columns }
+    requires rest { L.honest channel.old.link → IsOpen L.Link channel.old.link channel.old.id reader.old }
 
+    ensures stays { Stays L.Link channel.old.link channel.new.link }
+    ensures rest { OnOk result (L.honest channel.new.link → IsOpen L.Link channel.new.link channel.new.id reader.new) }
+    ensures ends { IfErr result (λ fault. ends_session fault ≡ true) }
     ensures tells { L.tells channel.old.link ↔ L.tells channel.new.link }
     ensures counted { IsCounted (L.faults channel.old.link) (L.faults channel.new.link) result }
     ensures alive { failed_by result ≡ false → channel.new.has_failed ≡ false }
@@ -235,7 +256,11 @@ fn ask<L: Link>(
 ) -> Result<u32, SessionFault>
     requires text { QueryHasText query.now }
     requires alive { channel.old.has_failed ≡ false }
+    requires is_open { L.honest channel.old.link → IsOpen L.Link channel.old.link channel.old.id idle }
 
+    ensures stays { Stays L.Link channel.old.link channel.new.link }
+    ensures rest { IfOk result (λ columns. L.honest channel.new.link → IsOpen L.Link channel.new.link channel.new.id (rows_of columns)) }
+    ensures is_open { IfErr result (λ fault. ends_session fault ≡ false → L.honest channel.new.link → IsOpen L.Link channel.new.link channel.new.id idle) }
     ensures tells { L.tells channel.old.link ↔ L.tells channel.new.link }
     ensures counted { IsCounted (L.faults channel.old.link) (L.faults channel.new.link) result }
     ensures alive { failed_by result ≡ false → channel.new.has_failed ≡ false }
@@ -292,7 +317,10 @@ fn advance<L: Link>(
     requires alive { channel.old.has_failed ≡ false }
     requires pending { 0 < reader.old.columns }
     requires rows { reader.old.awaited ≡ 0 }
+    requires rest { L.honest channel.old.link → IsOpen L.Link channel.old.link channel.old.id reader.old }
 
+    ensures stays { Stays L.Link channel.old.link channel.new.link }
+    ensures is_open { failed_by result ≡ false → L.honest channel.new.link → IsOpen L.Link channel.new.link channel.new.id reader.new }
     ensures tells { L.tells channel.old.link ↔ L.tells channel.new.link }
     ensures counted { IsCounted (L.faults channel.old.link) (L.faults channel.new.link) result }
     ensures alive { failed_by result ≡ false → channel.new.has_failed ≡ false }
@@ -312,9 +340,19 @@ fn advance<L: Link>(
 impl<L: Link> Reads for Session<L> {
     ghost use Rattle.my_session.specs.Session.{ReaderView, wire_of};
 
+    ghost honest = { λ session. L.honest session.link };
+
+    ghost same_origin = { λ one other. L.same_origin one.link other.link };
+
+    ghost terms = { λ session. (L.served session.link).state.terms };
+
     ghost tells = { λ session. L.tells session.link };
 
     ghost view = { λ session. record { wire = wire_of L.Link session; faults = L.faults session.link; has_failed = session.has_failed; pending = session.pending } };
+
+    ghost origin_begins = { λ one. L.origin_begins one.link };
+
+    ghost origins_join = { λ one next last. L.origins_join one.link next.link last.link };
 
     fn query(&mut self, query: &Query<'_>) -> Result<u32, SessionFault> {
         match ask(

@@ -1,5 +1,6 @@
 // Commands, and the first message of a reply.
 ghost use Rattle.std.specs.Prelude.{◌≡◌, ◌≤◌, ◌↔◌, ◌+◌, length, false, Some, IfErr, IfOk, OnOk, OnErr, Err};
+ghost use Rattle.result_rows.specs.Reading.{idle};
 ghost use Rattle.result_rows.specs.Reply.{reply_of};
 ghost use Rattle.sql_statements.specs.Statement.{CommandHasText};
 ghost use Rattle.sql_statements.specs.Text.{command_text};
@@ -7,7 +8,9 @@ ghost use Rattle.my_session.specs.Awaited.{done};
 ghost use Rattle.my_session.specs.Channel.{channel_wire, IsOfChannel};
 ghost use Rattle.my_session.specs.Halt.{Halts, Misheard};
 ghost use Rattle.my_session.specs.Heard.{HasColumns, HearsReply, reading_of};
-ghost use Rattle.my_session.specs.Session.{IsCounted, IsOfStatement, Runs, failed_by};
+ghost use Rattle.my_session.specs.InStep.{IsOpen, MakesNothing};
+ghost use Rattle.my_session.specs.Serving.{IsServing, Stays, MessageWaits, DeliversReply, DeliversRefusal};
+ghost use Rattle.my_session.specs.Session.{IsCounted, IsOfStatement, Runs, ends_session, failed_by};
 ghost use Rattle.my_session.specs.Statements.{command_payload};
 
 use crate::channel::Channel;
@@ -18,13 +21,16 @@ use sql_literals::Buffer;
 use sql_statements::{Command, Form, command_into};
 
 /// Hears a reply's first message; `None` where it spells none. Takes no memory.
-#[tactic(auto, using(crate::proofs::Answering::skim_tells))]
+#[tactic(auto, using(crate::proofs::Answering::skim_tells, crate::proofs::Answering::front_tells_reply))]
 pub(crate) fn hear_reply<L: Link>(
     channel: &mut Channel<L>,
     reader: &mut RowReader,
 ) -> Result<Option<Reply>, SessionFault>
     requires alive { channel.old.has_failed ≡ false }
+    requires waits { IsServing L.Link channel.old.link → MessageWaits channel.old.id (L.served channel.old.link).waiting }
 
+    ensures stays { Stays L.Link channel.old.link channel.new.link }
+    ensures delivers { IfOk result (λ reply. IsServing L.Link channel.old.link → DeliversReply L.Link reply channel.old.link channel.old.id channel.new.link channel.new.id) }
     ensures tells { L.tells channel.old.link ↔ L.tells channel.new.link }
     ensures counted { IsCounted (L.faults channel.old.link) (L.faults channel.new.link) result }
     ensures alive { OnOk result (channel.new.has_failed ≡ false) }
@@ -50,10 +56,14 @@ pub(crate) fn read_reply(payload: &[u8], reader: &mut RowReader) -> Option<Reply
 }
 
 /// Hears an OK, where an ERR answers a statement of this form. Takes no memory.
-#[tactic(auto, using(crate::proofs::Answering::halts_done, crate::proofs::Answering::misheard_halts, crate::proofs::Answering::channel_of_statement))]
+#[tactic(auto, using(crate::proofs::Answering::halts_done, crate::proofs::Answering::misheard_halts, crate::proofs::Answering::channel_of_statement, crate::proofs::Answering::channel_ends))]
 pub(crate) fn hear_done<L: Link>(channel: &mut Channel<L>, form: Form) -> Result<(), SessionFault>
     requires alive { channel.old.has_failed ≡ false }
+    requires waits { IsServing L.Link channel.old.link → MessageWaits channel.old.id (L.served channel.old.link).waiting }
 
+    ensures stays { Stays L.Link channel.old.link channel.new.link }
+    ensures done { OnOk result (IsServing L.Link channel.old.link → DeliversReply L.Link (Some Reply.Done) channel.old.link channel.old.id channel.new.link channel.new.id) }
+    ensures refusal { IfErr result (λ fault. ends_session fault ≡ false → IsServing L.Link channel.old.link → DeliversRefusal L.Link channel.old.link channel.old.id channel.new.link channel.new.id) }
     ensures tells { L.tells channel.old.link ↔ L.tells channel.new.link }
     ensures counted { IsCounted (L.faults channel.old.link) (L.faults channel.new.link) result }
     ensures alive { failed_by result ≡ false → channel.new.has_failed ≡ false }
@@ -94,7 +104,7 @@ fn write_command(payload: &mut Buffer, command: &Command<'_>) -> Result<(), Sess
 }
 
 /// Runs a command. Where its text has at most 1,000 bytes, for which there is room, it takes no memory.
-#[tactic(auto, using(crate::proofs::Answering::channel_of_statement))]
+#[tactic(auto, using(crate::proofs::Answering::channel_of_statement, crate::proofs::Answering::channel_ends))]
 pub(crate) fn run_on<L: Link>(
     channel: &mut Channel<L>,
     payload: &mut Buffer,
@@ -102,7 +112,11 @@ pub(crate) fn run_on<L: Link>(
 ) -> Result<(), SessionFault>
     requires text { CommandHasText command.now }
     requires alive { channel.old.has_failed ≡ false }
+    requires is_open { L.honest channel.old.link → IsOpen L.Link channel.old.link channel.old.id idle }
+    requires no_create { L.honest channel.old.link → (L.served channel.old.link).state.terms.sole ≡ false → MakesNothing command.now }
 
+    ensures stays { Stays L.Link channel.old.link channel.new.link }
+    ensures is_open { failed_by result ≡ false → L.honest channel.new.link → IsOpen L.Link channel.new.link channel.new.id idle }
     ensures tells { L.tells channel.old.link ↔ L.tells channel.new.link }
     ensures counted { IsCounted (L.faults channel.old.link) (L.faults channel.new.link) result }
     ensures alive { failed_by result ≡ false → channel.new.has_failed ≡ false }

@@ -3,6 +3,7 @@ ghost use Rattle.std.specs.Prelude.{◌≡◌, ◌↔◌, ◌≤◌, length, fal
 ghost use Rattle.result_rows.specs.Reading.{idle};
 ghost use Rattle.sql_statements.specs.Statement.{CommandHasText};
 ghost use Rattle.sql_statements.specs.Text.{command_text};
+ghost use Rattle.my_session.specs.InStep.{GreetingWaits, MakesNothing};
 ghost use Rattle.my_session.specs.Session.{Closes, IsCounted, IsOfStatement, LoggedIn, LoginStopped, Runs, failed_by, wire_of};
 
 use crate::channel::Channel;
@@ -22,7 +23,7 @@ pub const QUIT: &[u8] = b"\x01\x00\x00\x00\x01";
 /// A session with a server: a link, on which statements are sent and their replies are read one after
 /// the other.
 #[derive(Drop)]
-pub struct Session<L> {
+pub struct Session<L: Link> {
     pub(crate) channel: Channel<L>,
     // The payload that is being sent. Room for a short one is reserved at login.
     pub(crate) payload: Buffer,
@@ -32,15 +33,16 @@ pub struct Session<L> {
     pub(crate) has_failed: bool,
 }
 
-impl<L> Model for Session<L> {
+impl<L: Link> Model for Session<L> {
     ghost use Rattle.std.specs.Prelude.{◌≡◌, ◌≤◌, ◌+◌, length, false};
+    ghost use Rattle.my_session.specs.InStep.{IsInStep};
     ghost use Rattle.my_session.specs.Session.{SessionView};
 
     ghost Value = { SessionView L };
 
     ghost view = { λ s. record { link = s.channel.link; place = s.channel.place; id = s.channel.id; has_failed = s.has_failed; pending = record { reading = s.reader; form = s.form } } };
 
-    ghost invariant = { λ s. (1001 ≤ length s.payload.bytes + s.payload.spare) × (s.has_failed ≡ false → s.channel.has_failed ≡ false) };
+    ghost invariant = { λ s. (1001 ≤ length s.payload.bytes + s.payload.spare) × (s.has_failed ≡ false → s.channel.has_failed ≡ false) × IsInStep L.Link (record { link = s.channel.link; place = s.channel.place; id = s.channel.id; has_failed = s.has_failed; pending = record { reading = s.reader; form = s.form } }) };
 }
 
 impl<L: Link> Session<L> {
@@ -55,7 +57,12 @@ impl<L: Link> Session<L> {
         user: &[u8],
         password: &[u8],
     ) -> Result<Session<L>, (L, SessionFault)>
-        ensures { MatchResult result (λ session. LoggedIn L.Link user.now password.now link session) (λ gone. LoginStopped L.Link user.now password.now link gone.0 gone.1) }
+        requires new_link { L.honest link → (L.served link).failed ≡ false → GreetingWaits L.Link link }
+
+        ensures honest { MatchResult result (λ session. L.honest link ↔ L.honest session.link) (λ gone. L.honest link ↔ L.honest gone.0) }
+        ensures origin { MatchResult result (λ session. L.same_origin link session.link) (λ gone. L.same_origin link gone.0) }
+        ensures terms { MatchResult result (λ session. L.honest link → (L.served session.link).state.terms ≡ (L.served link).state.terms) (λ gone. L.honest link → (L.served gone.0).state.terms ≡ (L.served link).state.terms) }
+        ensures logs_in { MatchResult result (λ session. LoggedIn L.Link user.now password.now link session) (λ gone. LoginStopped L.Link user.now password.now link gone.0 gone.1) }
     {
         let mut channel = Channel::new(alloc, link);
         let mut payload = Buffer::new(alloc);
@@ -79,7 +86,11 @@ impl<L: Link> Session<L> {
         requires text { CommandHasText command.now }
         requires alive { self.old.has_failed ≡ false }
         requires none_pending { self.old.pending.reading ≡ idle }
+        requires no_create { L.honest self.old.link → (L.served self.old.link).state.terms.sole ≡ false → MakesNothing command.now }
 
+        ensures honest { L.honest self.old.link ↔ L.honest self.new.link }
+        ensures origin { L.same_origin self.old.link self.new.link }
+        ensures terms { L.honest self.old.link → (L.served self.new.link).state.terms ≡ (L.served self.old.link).state.terms }
         ensures tells { L.tells self.old.link ↔ L.tells self.new.link }
         ensures counted { IsCounted (L.faults self.old.link) (L.faults self.new.link) result }
         ensures failed { self.new.has_failed ≡ failed_by result }
@@ -115,7 +126,10 @@ impl<L: Link> Session<L> {
     /// Ends the session, and gives its link back. Where the session hasn't failed it sends COM_QUIT,
     /// whatever comes of that. Takes no memory.
     pub fn close(self) -> L
-        ensures { Closes L.Link QUIT.now self result }
+        ensures honest { L.honest self.link ↔ L.honest result }
+        ensures origin { L.same_origin self.link result }
+        ensures terms { L.honest self.link → (L.served result).state.terms ≡ (L.served self.link).state.terms }
+        ensures closes { Closes L.Link QUIT.now self result }
     {
         let Session {
             mut channel,

@@ -1,6 +1,7 @@
 // Sessions over links whose server is a list of replies.
 ghost use Rattle.std.specs.Prelude.{◌≡◌, false, IfOk};
 ghost use Rattle.result_rows.specs.Reading.{idle};
+ghost use Rattle.my_session.specs.InStep.{GreetingWaits};
 
 use link_traits::{Conversation, ConversationList, Link, ReplySite, Site};
 use my_packets::frame_into;
@@ -202,7 +203,9 @@ struct Talked<L> {
     report: Report,
 }
 
-fn talk_over<L: Link>(alloc: Global, link: L, password: &[u8], work: Work) -> Talked<L> {
+fn talk_over<L: Link>(alloc: Global, link: L, password: &[u8], work: Work) -> Talked<L>
+    requires new_link { L.honest link → (L.served link).failed ≡ false → GreetingWaits L.Link link }
+{
     match Session::login(alloc, link, b"u", password) {
         Ok(session) => {
             let mut session = session;

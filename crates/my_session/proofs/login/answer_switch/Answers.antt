@@ -2,7 +2,12 @@ use Rattle.std.proofs.Common.{◌∙◌}
 use Rattle.std.proofs.lemmas.Result.{on_ok_weaker, IfErr-weaker}
 use Rattle.my_session.specs.Channel.{channel_wire}
 use Rattle.my_session.proofs.LoggingIn.{switch_unsaid, switch_halts, switch_done}
+use Rattle.my_session.proofs.Stepping.{acceptance_heard}
 use Rattle.my_session.proofs.login.answer_switch.Goals as goal
+
+pub returns-clause-quiet : goal.returns-clause-quiet
+returns-clause-quiet g c =
+    acceptance_heard g.L.Link c.send_answer.new.channel.link c.hear_done.new.channel.link c.send_answer.new.channel.id c.hear_done.new.channel.id c.hear_done.ensures.stays c.in_default.ensures.decision c.hear_done.result c.hear_done.ensures.done
 
 pub returns-in-Err-clause-err : goal.returns-in-Err-clause-err
 returns-in-Err-clause-err g c = λ start user t takes.

@@ -3,7 +3,11 @@ use Rattle.sql_statements.specs.declared.command.Command.TheVariants.{SetUp}
 use Rattle.my_session.specs.Channel.{channel_wire}
 use Rattle.my_session.specs.declared.fault.SessionFault.TheVariants.{OutOfMemory}
 use Rattle.my_session.proofs.Running.{run_unwritten}
+use Rattle.my_session.proofs.Uncreating.{makes_nothing}
 use Rattle.my_session.proofs.login.set_up.Goals as goal
+
+pub run_on-requires-clause-no_create : goal.run_on-requires-clause-no_create
+run_on-requires-clause-no_create g c = λ h sole. makes_nothing SetUp tt (λ e. cc)
 
 pub returns-then-is_err-clause-runs : goal.returns-then-is_err-clause-runs
 returns-then-is_err-clause-runs g c = λ t.

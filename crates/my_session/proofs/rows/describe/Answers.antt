@@ -4,6 +4,7 @@ use Rattle.my_session.specs.Channel.{channel_wire}
 use Rattle.my_session.specs.Statements.{IsDescribed}
 use Rattle.my_session.specs.Wire.{Takes}
 use Rattle.my_session.proofs.Querying.{definition_halts, described_next, at_rows}
+use Rattle.my_session.proofs.Staying.{stays_on}
 use Rattle.my_session.proofs.rows.describe.Goals as goal
 
 pub returns-in-Err-clause-err : goal.returns-in-Err-clause-err
@@ -19,6 +20,8 @@ definitions-preserved g c =
     let now = is.counted.later in
     let left = here.awaited in
     record {
+      stays = stays_on g.L.Link g.met.L.Link.origins_join c.args.channel.now.link c.definitions.channel.link c.hear_definition.new.channel.link here.stays is.stays;
+      rest = is.rest;
       tells = (λ t. is.tells.0 (here.tells.0 t), λ t. here.tells.1 (is.tells.1 t));
       later = omega arith;
       alive = is.alive refl;

@@ -1,12 +1,16 @@
 use Rattle.std.proofs.Common.{◌≡◌, ◌≤◌, ◌↔◌, false}
 use Rattle.result_rows.specs.Reading.{counted}
 use Rattle.my_session.specs.Channel.{channel_wire}
+use Rattle.my_session.specs.InStep.{IsOpen}
+use Rattle.my_session.specs.Serving.{Stays}
 use Rattle.my_session.specs.Statements.{IsDescribed}
 use Rattle.my_session.specs.Wire.{Wire, Takes}
 use Rattle.my_session.proofs.rows.describe.Given as goal
 
 abbrev pub invariant-definitions : goal.invariant-definitions
 invariant-definitions g l = record {
+  stays : Stays g.L.Link l.fn.channel.link l.channel.link;
+  rest : g.L.Link.honest l.channel.link → IsOpen g.L.Link l.channel.link l.channel.id l.reader;
   tells : g.L.Link.tells l.fn.channel.link ↔ g.L.Link.tells l.channel.link;
   later : g.L.Link.faults l.fn.channel.link ≤ g.L.Link.faults l.channel.link;
   alive : l.channel.has_failed ≡ false;

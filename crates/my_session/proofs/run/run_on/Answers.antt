@@ -2,7 +2,32 @@ use Rattle.std.proofs.Common.{◌∙◌}
 use Rattle.std.proofs.lemmas.Result.{on_ok_weaker, IfErr-weaker}
 use Rattle.my_session.specs.Channel.{channel_wire}
 use Rattle.my_session.proofs.Running.{run_unwritten, run_unsaid, runs_by}
+use Rattle.my_session.proofs.Stepping.{reply_comes, said_text, answered}
+use Rattle.my_session.proofs.Uncreating.{says_nothing}
+use Rattle.sql_statements.specs.Text.{command_text}
 use Rattle.my_session.proofs.run.run_on.Goals as goal
+
+pub say-requires-clause-no_create : goal.say-requires-clause-no_create
+say-requires-clause-no_create g c = λ h phase sole.
+    says_nothing c.as_slice.result.now (command_text c.args.command.now) (c.as_slice.ensures ∙ c.in_default.ensures.bytes) (c.requires.no_create h sole)
+
+pub hear_done-requires-clause-waits : goal.hear_done-requires-clause-waits
+hear_done-requires-clause-waits g c = λ serving.
+    let is = c.in_default-say.ensures in
+    let before = is.stays.honest.1 serving.honest in
+    reply_comes g.L.Link c.say.new.self.link c.say.new.self.id
+    (said_text g.L.Link c.args.channel.now.link c.say.new.self.link c.say.new.self.id c.args.channel.now.id (command_text c.args.command.now) c.as_slice.result.now (c.as_slice.ensures ∙ c.in_default.ensures.bytes) (c.requires.is_open before) (is.replied before))
+
+pub returns-clause-is_open : goal.returns-clause-is_open
+returns-clause-is_open g c = λ goes_on h.
+    let is = c.in_default-say.ensures in
+    let heard = c.hear_done.ensures in
+    let middle = heard.stays.honest.1 h in
+    let before = is.stays.honest.1 middle in
+    let replied = is.replied before in
+    answered g.L.Link c.say.new.self.link c.hear_done.new.channel.link c.say.new.self.id c.hear_done.new.channel.id (record { honest = middle; alive = replied.alive })
+    (said_text g.L.Link c.args.channel.now.link c.say.new.self.link c.say.new.self.id c.args.channel.now.id (command_text c.args.command.now) c.as_slice.result.now (c.as_slice.ensures ∙ c.in_default.ensures.bytes) (c.requires.is_open before) replied)
+    c.hear_done.result heard.done heard.refusal goes_on
 
 pub returns-in-Err-clause-runs : goal.returns-in-Err-clause-runs
 returns-in-Err-clause-runs g c = λ t.

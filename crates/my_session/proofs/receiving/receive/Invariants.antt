@@ -1,6 +1,6 @@
 use Rattle.std.proofs.Common.{◌≤◌, ◌-◌, ◌^◌}
 use Rattle.my_session.specs.Receiving.{Gathers}
-use Rattle.my_session.proofs.channel.receive.Given as goal
+use Rattle.my_session.proofs.receiving.receive.Given as goal
 
 abbrev pub invariant-pieces : goal.invariant-pieces
 invariant-pieces g l = record {

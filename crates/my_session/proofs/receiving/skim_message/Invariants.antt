@@ -1,6 +1,6 @@
 use Rattle.std.proofs.Common.{◌≤◌, ◌-◌, ◌^◌}
 use Rattle.my_session.specs.Receiving.{Drains}
-use Rattle.my_session.proofs.channel.skim_message.Given as goal
+use Rattle.my_session.proofs.receiving.skim_message.Given as goal
 
 abbrev pub invariant-pieces : goal.invariant-pieces
 invariant-pieces g l = record {

@@ -1,6 +1,6 @@
 use Rattle.std.proofs.Common.{arith, sym, ◌∙◌}
-use Rattle.my_session.proofs.Skimming.{drains_more, drained_size, drained_hears, drained_not}
-use Rattle.my_session.proofs.channel.skim_message.Goals as goal
+use Rattle.my_session.proofs.Skimming.{drains_more, drained_waits, drained_size, drained_hears, drained_delivers, drained_not}
+use Rattle.my_session.proofs.receiving.skim_message.Goals as goal
 
 pub returns-then-wants-eq0-clause-size : goal.returns-then-wants-eq0-clause-size
 returns-then-wants-eq0-clause-size g c =
@@ -19,6 +19,14 @@ pub pieces-preserved : goal.pieces-preserved
 pieces-preserved g c =
     let is = c.in_default.ensures in
     record {
-      drains = drains_more g.L.Link c.args.link.now c.pieces.link c.args.id c.args.taken.now c.pieces.taken c.pieces.skim c.pieces.invariant.drains c.sip.new.link c.sip.new.skim c.sip.new.taken is.tells is.counted.later is.sent is.sips;
+      drains = drains_more g.L.Link c.args.link.now c.pieces.link c.args.id c.args.taken.now c.pieces.taken c.pieces.skim c.pieces.invariant.drains g.met.L.Link.origins_join c.sip.new.link c.sip.new.skim c.sip.new.taken is.tells is.counted.later is.sent is.stays is.sips;
       within = is.within;
     }
+
+pub returns-then-wants-eq0-clause-delivers : goal.returns-then-wants-eq0-clause-delivers
+returns-then-wants-eq0-clause-delivers g c =
+    drained_delivers g.L.Link c.args.link.now c.pieces.link c.args.id c.args.taken.now c.pieces.taken c.pieces.skim c.pieces.invariant.drains c.pieces.invariant.within (sym c.wants-wants.ensures.value ∙ c.if-wants-eq0.true)
+
+pub sip-requires-clause-waits : goal.sip-requires-clause-waits
+sip-requires-clause-waits g c =
+    drained_waits g.L.Link c.args.link.now c.pieces.link c.args.id c.args.taken.now c.pieces.taken c.pieces.skim c.pieces.invariant.drains c.wants-wants.result c.requires.waits (omega arith) (c.wants-wants.ensures.wants c.args.id 67108864 c.pieces.invariant.drains.fed c.pieces.invariant.drains.skims)

@@ -1,0 +1,106 @@
+-- What an honest server answers to a login.
+use Rattle.std.proofs.Common.{◌≡◌, ◌==◌, ℕ, Bool, true, false, if◌then◌else◌, List, [], ◌∷◌, refl, sym, ◌∙◌, ap, subst, arith, inl, inr, Option, Some, None, option_map, Result, Ok, Err}
+use Rattle.std.proofs.lemmas.Bool.{eqb-true}
+use Rattle.honest_server.specs.Exchange.{Replies, accepted, switched, turned_away, quits, served, unknown, ignored, IsLoggingIn, AsksFor}
+use Rattle.honest_server.specs.Moves.{Way}
+use Rattle.honest_server.specs.State.{State, Phase, switching, in_session}
+use Rattle.my_login.specs.Switch.{switch_of, behind_request}
+use Rattle.my_login.specs.declared.fault.LoginFault.{LoginFault}
+use Rattle.my_login.specs.declared.fault.LoginFault.TheVariants.{PluginUnsupported, Garbled}
+use Rattle.my_login.specs.declared.switch.Switch.{Switch}
+use Rattle.result_rows.specs.Definition.{column_count}
+use Rattle.result_rows.specs.KeptText.{kept_text}
+use Rattle.result_rows.specs.Reply.{is_ok_packet, refusal_of, reply_of}
+use Rattle.result_rows.specs.declared.refusal.Refusal.{Refusal}
+use Rattle.result_rows.specs.declared.reader.Reply.TheVariants.{Done, Refused as IsRefused, Columns}
+use Rattle.result_rows.specs.declared.short_text.ShortText.{ShortText}
+use Rattle.server_model.specs.declared.data.Transaction.{Transaction}
+
+-- ---- the first byte of an OK is 0, that of an ERR is ff, and that of a request for another plugin fe
+
+record Begins (byte : ℕ) (message : List ℕ) : Type 0 where
+  bytes : List ℕ
+  message_is : message ≡ byte ∷ bytes
+
+apart : (one other : ℕ) (message : List ℕ) → Begins one message → Begins other message → (one ≡ other → ⊥) → ⊥
+apart one other message here there differ =
+    let both : one ∷ here.bytes ≡ other ∷ there.bytes = sym here.message_is ∙ there.message_is in
+    let same : one ≡ other = cc in
+    differ same
+
+begins_by : (byte wanted : ℕ) (bytes : List ℕ) → (byte == wanted) ≡ true → Begins wanted (byte ∷ bytes)
+begins_by byte wanted bytes is = record { bytes = bytes; message_is = ap (λ (n : ℕ). n ∷ bytes) (eqb-true byte wanted is) }
+
+done_by : (zeroes full ok : Bool) (refusal : Option Refusal) (number : Option ℕ) → (if zeroes then (if ok then Some Done else None) else (if full then option_map (λ refusal. IsRefused refusal) refusal else option_map (λ count. Columns count) number)) ≡ Some Done → zeroes ≡ true
+done_by true full ok refusal number e = refl
+done_by false true ok None number e = absurd (cc)
+done_by false true ok (Some refusal) number e = absurd (cc)
+done_by false false ok refusal None e = absurd (cc)
+done_by false false ok refusal (Some number) e = absurd (cc)
+
+refused_by : (zeroes full ok : Bool) (refusal : Option Refusal) (number : Option ℕ) (found : Refusal) → (if zeroes then (if ok then Some Done else None) else (if full then option_map (λ refusal. IsRefused refusal) refusal else option_map (λ count. Columns count) number)) ≡ Some (IsRefused found) → full ≡ true
+refused_by true full true refusal number found e = absurd (cc)
+refused_by true full false refusal number found e = absurd (cc)
+refused_by false true ok refusal number found e = refl
+refused_by false false ok refusal None found e = absurd (cc)
+refused_by false false ok refusal (Some number) found e = absurd (cc)
+
+switch_by : (is : Bool) (behind : Result Switch LoginFault) (found : Switch) → (if is then behind else Err Garbled) ≡ Ok found → is ≡ true
+switch_by true behind found e = refl
+switch_by false behind found e = absurd (cc)
+
+unsupported_by : (is : Bool) (behind : Result Switch LoginFault) (name : ShortText) → (if is then behind else Err Garbled) ≡ Err (PluginUnsupported name) → is ≡ true
+unsupported_by true behind name e = refl
+unsupported_by false behind name e = absurd (cc)
+
+done_begins : (message : List ℕ) → reply_of message ≡ Some Done → Begins 0 message
+done_begins [] is = absurd (cc)
+done_begins (byte ∷ bytes) is = begins_by byte 0 bytes (done_by (byte == 0) (byte == 255) (is_ok_packet (byte ∷ bytes)) (refusal_of (byte ∷ bytes)) (column_count (byte ∷ bytes)) is)
+
+refused_begins : (message : List ℕ) (refusal : Refusal) → reply_of message ≡ Some (IsRefused refusal) → Begins 255 message
+refused_begins [] refusal is = absurd (cc)
+refused_begins (byte ∷ bytes) refusal is = begins_by byte 255 bytes (refused_by (byte == 0) (byte == 255) (is_ok_packet (byte ∷ bytes)) (refusal_of (byte ∷ bytes)) (column_count (byte ∷ bytes)) refusal is)
+
+switch_begins : (message : List ℕ) (found : Switch) → switch_of message ≡ Ok found → Begins 254 message
+switch_begins [] found is = absurd (cc)
+switch_begins (byte ∷ bytes) found is = begins_by byte 254 bytes (switch_by (byte == 254) (behind_request bytes) found is)
+
+unsupported_begins : (message : List ℕ) (name : ShortText) → switch_of message ≡ Err (PluginUnsupported name) → Begins 254 message
+unsupported_begins [] name is = absurd (cc)
+unsupported_begins (byte ∷ bytes) name is = begins_by byte 254 bytes (unsupported_by (byte == 254) (behind_request bytes) name is)
+
+asks_begins : (plugin message : List ℕ) → AsksFor plugin message → Begins 254 message
+asks_begins plugin message (inl native) = switch_begins message native.1 native.2
+asks_begins plugin message (inr other) = unsupported_begins message (kept_text plugin) other.1
+
+-- ---- the answer to a login: an OK only where the session is open then, and a request for another scramble only where its answer is awaited
+
+pub record IsLoginAnswer (messages : List (List ℕ)) (new : State) : Type 0 where
+  pub message : List ℕ
+  pub messages_are : messages ≡ message ∷ []
+  pub taken : reply_of message ≡ Some Done → new.phase ≡ in_session
+  pub asked : (found : Switch) → switch_of message ≡ Ok found → new.phase ≡ switching
+
+pub login_answer : (way : Way) (state : State) (payload : List ℕ) (messages : List (List ℕ)) (new : State) → IsLoggingIn state.phase → Replies way state payload messages new → IsLoginAnswer messages new
+login_answer way state payload messages new here (accepted logging says new_is) = record {
+  message = says.message;
+  messages_are = says.messages_are;
+  taken = λ is. ap (λ (s : State). s.phase) new_is;
+  asked = λ found is. absurd (apart 0 254 says.message (done_begins says.message says.says) (switch_begins says.message found is) (λ e. omega arith));
+}
+login_answer way state payload messages new here (switched message phase asks lean messages_are new_is) = record {
+  message = message;
+  messages_are = messages_are;
+  taken = λ is. absurd (apart 0 254 message (done_begins message is) (asks_begins state.terms.plugin message asks) (λ e. omega arith));
+  asked = λ found is. ap (λ (s : State). s.phase) new_is;
+}
+login_answer way state payload messages new here (turned_away refusal logging unwilling says new_is) = record {
+  message = says.message;
+  messages_are = says.messages_are;
+  taken = λ is. absurd (apart 0 255 says.message (done_begins says.message is) (refused_begins says.message refusal says.says) (λ e. omega arith));
+  asked = λ found is. absurd (apart 254 255 says.message (switch_begins says.message found is) (refused_begins says.message refusal says.says) (λ e. omega arith));
+}
+login_answer way state payload messages new here (quits phase payload_is messages_are new_is) = absurd (subst (λ (p : Phase). IsLoggingIn p) phase here)
+login_answer way state payload messages new here (served text statement reply phase payload_is read serves spells) = absurd (subst (λ (p : Phase). IsLoggingIn p) phase here)
+login_answer way state payload messages new here (unknown refusal more phase nothing gives says) = absurd (subst (λ (p : Phase). IsLoggingIn p) phase here)
+login_answer way state payload messages new here (ignored phase messages_are new_is) = absurd (subst (λ (p : Phase). IsLoggingIn p) phase here)

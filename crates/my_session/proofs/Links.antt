@@ -1,0 +1,75 @@
+-- What the calls of a link do, where its server is honest.
+use Rattle.std.proofs.Common.{◌≡◌, ◌↔◌, ℕ, Bool, true, false, List, ◌++◌, length, take, refl, sym, ◌∙◌, ap, subst, arith, append_assoc, Result, Ok, Err, IsErr}
+use Rattle.std.proofs.lemmas.Bool.{false≢true}
+use Rattle.honest_server.specs.Exchange.{Replies, packets_from}
+use Rattle.honest_server.specs.Link.{ServedLink, Sends, Receives, IsAnswered}
+use Rattle.honest_server.specs.Moves.{plainly}
+use Rattle.link_traits.specs.Link.{Receives as TakesTold, stream, joined}
+use Rattle.link_traits.specs.declared.link.Link.{Ghosts}
+use Rattle.my_packets.specs.Packet.{packets, packet_count, id_behind}
+use Rattle.my_session.proofs.Effects.{exchanges_terms, breaks_terms}
+use Rattle.my_session.proofs.Payloads.{one_payload}
+use Rattle.my_session.specs.Serving.{Stays, Gives, Replied}
+
+by_failed : {P : Type 0} (failed : Bool) → (failed ≡ false → P) → (failed ≡ true → P) → P
+by_failed true alive dead = dead refl
+by_failed false alive dead = alive refl
+
+received_terms : {E : Type 0} (old new : ServedLink) (buffer : List ℕ) (result : Result ℕ E) → Receives old buffer result new → new.state.terms ≡ old.state.terms
+received_terms old new buffer (Ok count) receives = ap (λ s. s.terms) receives.ok.state
+received_terms old new buffer (Err fault) receives = ap (λ (s : ServedLink). s.state.terms) receives.err
+
+sent_terms : {T E : Type 0} (old new : ServedLink) (message : List ℕ) (result : Result T E) → Sends old message result new → new.state.terms ≡ old.state.terms
+sent_terms old new message (Ok sent) sends = exchanges_terms plainly old.state message sends.ok.reply new.state sends.ok.exchanges
+sent_terms old new message (Err fault) sends = breaks_terms old new message sends.err
+
+module _ {L : Type 0} (of : Ghosts L) where
+  -- a piece that was taken off a link
+  pub taken_off : (old new : L) (E : Type 0) (count : ℕ) (buffer : List ℕ) → (of.tells old → TakesTold {E = E} (of.told old) buffer (Ok count) (of.told new)) → of.tells old → stream (of.told old) ≡ take count buffer ++ stream (of.told new)
+  taken_off old new E count buffer received t =
+      let off = (received t).ok in
+      ap (λ (l : List ℕ). l ++ joined (of.told old).coming) off.bytes ∙ append_assoc (take count buffer) (of.told new).waiting (joined (of.told old).coming) ∙ ap (λ (c : List (List ℕ)). take count buffer ++ ((of.told new).waiting ++ joined c)) (sym off.coming)
+
+module _ {L : Type 0} (of : Ghosts L) (old new : L) where
+  -- a call on a link that has failed changes nothing of it
+  stays_by : {T E : Type 0} (result : Result T E) → (of.honest old ↔ of.honest new) → of.same_origin old new → (of.honest old → (of.served old).failed ≡ true → IsErr result × (of.served new ≡ of.served old)) → (of.honest old → (of.served old).failed ≡ false → (of.served new).state.terms ≡ (of.served old).state.terms) → Stays of old new
+  stays_by result honest origin dead terms = record {
+    honest = honest;
+    origin = origin;
+    terms = λ h. by_failed (of.served old).failed (terms h) (λ failed. ap (λ (s : ServedLink). s.state.terms) (dead h failed).1);
+    back = λ h alive. by_failed (of.served old).failed (λ e. e) (λ failed. ap (λ (s : ServedLink). s.failed) (sym (dead h failed).1) ∙ alive);
+  }
+
+  module _ (E : Type 0) (buffer : List ℕ) where
+    pub recv_stays : (result : Result ℕ E) → (of.honest old ↔ of.honest new) → of.same_origin old new → (of.honest old → (of.served old).failed ≡ true → IsErr result × (of.served new ≡ of.served old)) → (of.honest old → (of.served old).failed ≡ false → Receives (of.served old) buffer result (of.served new)) → Stays of old new
+    recv_stays result honest origin dead served = stays_by result honest origin dead (λ h alive. received_terms (of.served old) (of.served new) buffer result (served h alive))
+
+    module _ (count : ℕ) (dead : of.honest old → (of.served old).failed ≡ true → IsErr {T = ℕ} {E = E} (Ok count) × (of.served new ≡ of.served old)) where
+      pub recv_alive : of.honest old → (of.served old).failed ≡ false
+      recv_alive h = by_failed (of.served old).failed (λ e. e) (λ failed. absurd (false≢true (dead h failed).0))
+
+      pub recv_gives : (of.honest old → (of.served old).failed ≡ false → Receives {E = E} (of.served old) buffer (Ok count) (of.served new)) → of.honest old → Gives of (take count buffer) old new
+      recv_gives served h =
+          let off = (served h (recv_alive h)).ok in
+          record { alive = off.alive; state = off.state; waits = sym off.bytes }
+
+  module _ (T E : Type 0) (message : List ℕ) where
+    pub send_stays : (result : Result T E) → (of.honest old ↔ of.honest new) → of.same_origin old new → (of.honest old → (of.served old).failed ≡ true → IsErr result × (of.served new ≡ of.served old)) → (of.honest old → (of.served old).failed ≡ false → Sends (of.served old) message result (of.served new)) → Stays of old new
+    send_stays result honest origin dead served = stays_by result honest origin dead (λ h alive. sent_terms (of.served old) (of.served new) message result (served h alive))
+
+  -- what is answered to the packets of a payload
+  module _ (id : ℕ) (payload : List ℕ) (answered : IsAnswered plainly (of.served old) (packets id payload) (of.served new)) where
+    pub replied : (of.served old).failed ≡ false → Replied of payload old new (id_behind (packet_count (length payload)) id)
+    replied alive =
+        let exchanges = answered.exchanges in
+        let same = one_payload id exchanges.is_message.id payload exchanges.payload exchanges.is_message.message_is in
+        let ids = same.ids in
+        let size : length payload ≡ length exchanges.payload = ap (λ (l : List ℕ). length l) same.payload in
+        let behind : id_behind (packet_count (length exchanges.payload)) exchanges.is_message.id ≡ id_behind (packet_count (length payload)) id = omega arith in
+        record {
+          messages = exchanges.messages;
+          replies = subst (λ (l : List ℕ). Replies plainly (of.served old).state l exchanges.messages (of.served new).state) (sym same.payload) exchanges.replies;
+          was_alive = alive;
+          alive = answered.alive;
+          waits = answered.waits ∙ ap (λ (l : List ℕ). (of.served old).waiting ++ l) (exchanges.reply_is ∙ ap (λ (n : ℕ). packets_from n exchanges.messages) behind);
+        }

@@ -1,0 +1,115 @@
+-- What an honest server's reply begins with, and what follows it.
+use Rattle.std.proofs.Common.{Bool, None, ◌≡◌, ◌+◌, ℕ, zero, suc, List, [], ◌∷◌, ◌++◌, map, replicate, refl, sym, ◌∙◌, ap, subst, inl, inr, Option, Some}
+use Rattle.honest_server.specs.Exchange.{Replies, accepted, switched, turned_away, quits, served, unknown, ignored, query_payload, IsLoggingIn}
+use Rattle.honest_server.specs.Serve.{Reply, done, rows, refused}
+use Rattle.honest_server.specs.Spelled.{Spells, SpellsErr, BreaksOff, SpellsRowsOf, sent_rows}
+use Rattle.honest_server.specs.Moves.{Way}
+use Rattle.honest_server.specs.State.{State, Phase, in_session}
+use Rattle.result_rows.proofs.ResultSets.{set-taken}
+use Rattle.result_rows.specs.Reading.{Reading, Further, definition, row, end, refused as refused_turn, garbled, counted, further_of, after}
+use Rattle.result_rows.specs.Reply.{reply_of}
+use Rattle.result_rows.specs.ResultSet.{taken}
+use Rattle.result_rows.specs.Row.{Cell}
+use Rattle.result_rows.specs.declared.refusal.Refusal.{Refusal}
+use Rattle.result_rows.specs.declared.reader.Reply.{Reply as FirstReply}
+use Rattle.server_model.specs.declared.data.Transaction.{Transaction}
+use Rattle.sql_literals.specs.declared.cell.Cell.{Cell as FoundCell}
+use Rattle.sql_statements.specs.declared.query.Query.{Query}
+use Rattle.sql_statements.specs.declared.statement.Statement.{Statement}
+use Rattle.sql_statements.specs.declared.statement.Statement.TheVariants.{Command as SomeCommand, Query as SomeQuery}
+use Rattle.my_session.proofs.Effects.{serves_keeps, unknown_keeps}
+use Rattle.my_session.specs.InStep.{Completes, ends, breaks_off, defines, has_row, Follows, IsReply}
+
+-- ---- the rest of a result set, by what a reader takes its messages for
+
+abbrev EndsRows : Further → Type 0
+EndsRows definition = ⊥
+EndsRows (row cells) = ⊥
+EndsRows end = Unit {0}
+EndsRows (refused_turn refusal) = Unit {0}
+EndsRows garbled = ⊥
+
+completes_last : (reading : Reading) (last : Further) (message : List ℕ) → EndsRows last → further_of reading message ≡ last → Completes reading (message ∷ [])
+completes_last reading definition message ending is = absurd ending
+completes_last reading (row cells) message ending is = absurd ending
+completes_last reading end message ending is = ends is
+completes_last reading (refused_turn refusal) message ending is = breaks_off is
+completes_last reading garbled message ending is = absurd ending
+
+completes_rows : (reading : Reading) (found : List (List Cell)) (last : Further) (messages : List (List ℕ)) → EndsRows last → taken reading messages ≡ map row found ++ last ∷ [] → Completes reading messages
+completes_rows reading [] last [] ending turns = absurd (cc)
+completes_rows reading [] last (message ∷ []) ending turns = completes_last reading last message ending (let first : further_of reading message ≡ last = cc in first)
+completes_rows reading [] last (message ∷ other ∷ messages) ending turns = absurd (cc)
+completes_rows reading (cells ∷ found) last [] ending turns = absurd (cc)
+completes_rows reading (cells ∷ found) last (message ∷ messages) ending turns =
+    let first : further_of reading message ≡ row cells = cc in
+    let others : taken (after reading (further_of reading message)) messages ≡ map row found ++ last ∷ [] = cc in
+    has_row first (completes_rows reading found last messages ending (ap (λ (f : Further). taken (after reading f) messages) (sym first) ∙ others))
+
+completes_turns : (count : ℕ) (reading : Reading) (found : List (List Cell)) (last : Further) (messages : List (List ℕ)) → EndsRows last → taken reading messages ≡ replicate count definition ++ (map row found ++ last ∷ []) → Completes reading messages
+completes_turns zero reading found last messages ending turns = completes_rows reading found last messages ending turns
+completes_turns (suc count) reading found last [] ending turns = absurd (cc)
+completes_turns (suc count) reading found last (message ∷ messages) ending turns =
+    let first : further_of reading message ≡ definition = cc in
+    let others : taken (after reading (further_of reading message)) messages ≡ replicate count definition ++ (map row found ++ last ∷ []) = cc in
+    defines first (completes_turns count (after reading definition) found last messages ending (ap (λ (f : Further). taken (after reading f) messages) (sym first) ∙ others))
+
+-- ---- a reply in a session
+
+reply_alone : (message : List ℕ) (messages : List (List ℕ)) (reply : FirstReply) → messages ≡ message ∷ [] → reply_of message ≡ Some reply → Follows (Some reply) [] → IsReply messages
+reply_alone message messages reply messages_are says follows = record {
+  first = message;
+  others = [];
+  messages_are = messages_are;
+  follows = subst (λ (r : Option FirstReply). Follows r []) (sym says) follows;
+}
+
+err_reply : (willing : Bool) (refusal : Refusal) (messages : List (List ℕ)) → SpellsErr willing refusal messages → IsReply messages
+err_reply willing refusal messages spells = reply_alone spells.message messages _ spells.messages_are spells.says refl
+
+rows_reply : (willing : Bool) (query : Query) (found : List (List FoundCell)) (messages : List (List ℕ)) → SpellsRowsOf willing query found messages → IsReply messages
+rows_reply willing query found messages spells =
+    let is_taken = set-taken spells.columns (sent_rows found) messages spells.is_set in
+    record {
+      first = is_taken.first;
+      others = is_taken.others;
+      messages_are = is_taken.messages_are;
+      follows = subst (λ (r : Option FirstReply). Follows r is_taken.others) (sym is_taken.reply) (completes_turns (spells.columns + 1) (counted spells.columns) (sent_rows found) end is_taken.others tt is_taken.turns);
+    }
+
+broken_reply : (willing : Bool) (query : Query) (found : List (List FoundCell)) (refusal : Refusal) (messages : List (List ℕ)) → BreaksOff willing query found refusal messages → IsReply messages
+broken_reply willing query found refusal messages breaks = record {
+  first = breaks.first;
+  others = breaks.others;
+  messages_are = breaks.messages_are;
+  follows = subst (λ (r : Option FirstReply). Follows r breaks.others) (sym breaks.counts) (completes_turns (breaks.columns + 1) (counted breaks.columns) (sent_rows found) (refused_turn refusal) breaks.others tt breaks.turns);
+}
+
+spelled_reply : (willing : Bool) (statement : Statement) (reply : Reply) (messages : List (List ℕ)) → Spells willing statement reply messages → IsReply messages
+spelled_reply willing (SomeCommand command) done messages spells = reply_alone spells.message messages _ spells.messages_are spells.says refl
+spelled_reply willing (SomeCommand command) (rows found) messages spells = absurd spells
+spelled_reply willing (SomeCommand command) (refused found refusal) messages spells = err_reply willing refusal messages spells
+spelled_reply willing (SomeQuery query) done messages spells = absurd spells
+spelled_reply willing (SomeQuery query) (rows found) messages spells = rows_reply willing query found messages spells
+spelled_reply willing (SomeQuery query) (refused found refusal) messages (inl spells) = err_reply willing refusal messages spells.1
+spelled_reply willing (SomeQuery query) (refused found refusal) messages (inr breaks) = broken_reply willing query found refusal messages breaks
+
+pub record InSession (messages : List (List ℕ)) (new : State) : Type 0 where
+  pub is_reply : IsReply messages
+  pub phase : new.phase ≡ in_session
+
+-- in a session a text is answered by a whole reply, and the session stays open
+pub session_reply : (way : Way) (state : State) (text payload : List ℕ) (messages : List (List ℕ)) (new : State) → state.phase ≡ in_session → payload ≡ query_payload text → Replies way state payload messages new → InSession messages new
+session_reply way state text payload messages new here is (accepted logging says new_is) = absurd (subst (λ (p : Phase). IsLoggingIn p) here logging)
+session_reply way state text payload messages new here is (switched message phase asks lean messages_are new_is) = absurd (cc)
+session_reply way state text payload messages new here is (turned_away refusal logging unwilling says new_is) = absurd (subst (λ (p : Phase). IsLoggingIn p) here logging)
+session_reply way state text payload messages new here is (quits phase payload_is messages_are new_is) = absurd (cc)
+session_reply way state text payload messages new here is (served also statement reply phase payload_is read serves spells) = record {
+  is_reply = spelled_reply state.terms.willing statement reply messages spells;
+  phase = (serves_keeps way state statement reply new serves).phase ∙ here;
+}
+session_reply way state text payload messages new here is (unknown refusal more phase nothing gives says) = record {
+  is_reply = err_reply state.terms.willing refusal messages says;
+  phase = (unknown_keeps state more None refusal new gives).phase ∙ here;
+}
+session_reply way state text payload messages new here is (ignored phase messages_are new_is) = absurd (cc)

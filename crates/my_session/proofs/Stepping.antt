@@ -1,0 +1,294 @@
+-- How what waits on an honest link goes on from one step of a session to the next.
+use Rattle.std.proofs.Common.{◌≡◌, ◌<◌, ℕ, Bool, true, false, List, [], ◌∷◌, ◌++◌, length, refl, sym, ◌∙◌, ap, subst, arith, Option, Some, Result, Ok, Err, OnOk}
+use Rattle.std.specs.Prelude.{IfOk, IfErr, MatchResult}
+use Rattle.std.proofs.lemmas.Bool.{false≢true}
+use Rattle.std.proofs.lemmas.List.{append-nil}
+use Rattle.honest_server.specs.Exchange.{IsGreeting, packets_from, query_payload, IsLoggingIn}
+use Rattle.honest_server.specs.Moves.{plainly}
+use Rattle.honest_server.specs.Site.{ServedSite, IsNewLink}
+use Rattle.honest_server.specs.State.{State, Phase, greeted, switching, in_session}
+use Rattle.link_traits.specs.declared.link.Link.{Ghosts}
+use Rattle.my_login.specs.Switch.{switch_of}
+use Rattle.my_login.specs.declared.switch.Switch.{Switch}
+use Rattle.my_packets.proofs.Fronts.{same_packets}
+use Rattle.my_packets.specs.Packet.{packets, packet_count, id_behind}
+use Rattle.result_rows.specs.Reading.{Reading, Further, definition, row, end, refused, garbled, idle, counted, further_of, after}
+use Rattle.result_rows.specs.Reply.{reply_of}
+use Rattle.result_rows.specs.Row.{Cell}
+use Rattle.result_rows.specs.declared.refusal.Refusal.{Refusal}
+use Rattle.result_rows.specs.declared.reader.Reply.{Reply}
+use Rattle.result_rows.specs.declared.reader.Reply.TheVariants.{Done, Refused as IsRefused, Columns}
+use Rattle.sql_statements.specs.declared.form.Form.{Form}
+use Rattle.my_session.proofs.Decisions.{login_answer}
+use Rattle.my_session.proofs.Rests.{session_reply}
+use Rattle.my_session.specs.Awaited.{further_fault}
+use Rattle.my_session.specs.Heard.{IsDecision, Judges}
+use Rattle.my_session.specs.InStep.{Completes, ends, breaks_off, defines, has_row, Follows, WaitsRest, phase_behind, IsQuiet, DecisionWaits, ReplyWaits, IsOpen, GreetingWaits}
+use Rattle.my_session.specs.Serving.{IsServing, Stays, MessageWaits, Delivers, DeliversReply, DeliversRefusal, Replied}
+use Rattle.my_session.specs.Session.{failed_by, ends_session}
+use Rattle.my_session.specs.declared.fault.SessionFault.{SessionFault}
+use Rattle.my_session.specs.declared.fault.SessionFault.TheVariants.{Garbled}
+use Rattle.my_session.specs.declared.login.Decision.{Decision}
+use Rattle.my_session.specs.declared.login.Decision.TheVariants.{Accepted, Switched}
+
+-- messages of which there is a first
+first_waits : (id : ℕ) (waiting first : List ℕ) (others messages : List (List ℕ)) → messages ≡ first ∷ others → waiting ≡ packets_from id messages → MessageWaits id waiting
+first_waits id waiting first others messages messages_are waits = record {
+  message = first;
+  behind = packets_from (id_behind (packet_count (length first)) id) others;
+  waits = waits ∙ ap (λ (l : List (List ℕ)). packets_from id l) messages_are;
+}
+
+-- what is left of a result set behind a message of it
+abbrev RestBehind : Reading → Further → List (List ℕ) → Type 0
+RestBehind reading definition others = Completes (after reading definition) others
+RestBehind reading (row cells) others = Completes reading others
+RestBehind reading end others = others ≡ []
+RestBehind reading (refused refusal) others = others ≡ []
+RestBehind reading garbled others = ⊥
+
+record Begins (reading : Reading) (messages : List (List ℕ)) : Type 0 where
+  first : List ℕ
+  others : List (List ℕ)
+  messages_are : messages ≡ first ∷ others
+  rest : RestBehind reading (further_of reading first) others
+
+completes_begins : (reading : Reading) (messages : List (List ℕ)) → Completes reading messages → Begins reading messages
+completes_begins reading [] completes = elim completes [ ]
+completes_begins reading (message ∷ []) (ends is) = record { first = message; others = []; messages_are = refl; rest = subst (λ (f : Further). RestBehind reading f []) (sym is) refl }
+completes_begins reading (message ∷ []) (breaks_off is) = record { first = message; others = []; messages_are = refl; rest = subst (λ (f : Further). RestBehind reading f []) (sym is) refl }
+completes_begins reading (message ∷ messages) (defines is rest) = record { first = message; others = messages; messages_are = refl; rest = subst (λ (f : Further). RestBehind reading f messages) (sym is) rest }
+completes_begins reading (message ∷ messages) (has_row is rest) = record { first = message; others = messages; messages_are = refl; rest = subst (λ (f : Further). RestBehind reading f messages) (sym is) rest }
+
+-- a fault at a message of a result set that doesn't end the session is an ERR
+refused_by : (form : Form) (place : ℕ) (turn : Further) (fault : SessionFault) → further_fault form place turn ≡ Some fault → ends_session fault ≡ false → (refusal : Refusal) × (turn ≡ refused refusal)
+refused_by form place definition fault is goes_on = absurd (cc)
+refused_by form place (row cells) fault is goes_on = absurd (cc)
+refused_by form place end fault is goes_on = absurd (cc)
+refused_by form place (refused refusal) fault is goes_on = (refusal, refl)
+refused_by form place garbled fault is goes_on = let same : Garbled place ≡ fault = cc in absurd (false≢true (sym goes_on ∙ ap (λ (f : SessionFault). ends_session f) (sym same)))
+
+module _ {L : Type 0} (of : Ghosts L) where
+  pub reply_comes : (link : L) (id : ℕ) → ReplyWaits of link id → MessageWaits id (of.served link).waiting
+  reply_comes link id reply = first_waits id (of.served link).waiting reply.is_reply.first reply.is_reply.others reply.messages reply.is_reply.messages_are reply.waits
+
+  pub rest_comes : (link : L) (id : ℕ) (reading : Reading) → 0 < reading.columns → IsOpen of link id reading → MessageWaits id (of.served link).waiting
+  rest_comes link id reading some is_open =
+      let rest = is_open.rest some in
+      let there = completes_begins reading rest.messages rest.completes in
+      first_waits id (of.served link).waiting there.first there.others rest.messages there.messages_are rest.waits
+
+  pub decision_comes : (link : L) (id : ℕ) → DecisionWaits of link id → MessageWaits id (of.served link).waiting
+  decision_comes link id decision = first_waits id (of.served link).waiting decision.message [] (decision.message ∷ []) refl decision.waits
+
+  -- where nothing is pending, nothing waits
+  pub open_idle : (link : L) (id : ℕ) → (of.served link).failed ≡ false → (of.served link).state.phase ≡ in_session → (of.served link).waiting ≡ [] → IsOpen of link id idle
+  open_idle link id alive phase none = record {
+    alive = alive;
+    phase = phase;
+    none = λ e. none;
+    rest = λ some. absurd (omega arith);
+  }
+
+  open_rest : (link : L) (id : ℕ) (reading : Reading) → (of.served link).failed ≡ false → (of.served link).state.phase ≡ in_session → 0 < reading.columns → WaitsRest reading id (of.served link).waiting → IsOpen of link id reading
+  open_rest link id reading alive phase some rest = record {
+    alive = alive;
+    phase = phase;
+    none = λ e. absurd (omega arith);
+    rest = λ more. rest;
+  }
+
+  module _ (old new : L) (id : ℕ) where
+    -- a text is answered by a reply
+    pub said_text : (before : ℕ) (text payload : List ℕ) → payload ≡ query_payload text → IsOpen of old before idle → Replied of payload old new id → ReplyWaits of new id
+    said_text before text payload is is_open replied =
+        let told = session_reply plainly (of.served old).state text payload replied.messages (of.served new).state is_open.phase is replied.replies in
+        record {
+          alive = replied.alive;
+          phase = told.phase;
+          messages = replied.messages;
+          is_reply = told.is_reply;
+          waits = replied.waits ∙ ap (λ (l : List ℕ). l ++ packets_from id replied.messages) (is_open.none refl);
+        }
+
+    -- a login is answered by one message
+    pub said_login : (phase : Phase) (payload : List ℕ) → IsLoggingIn phase → IsQuiet of phase old → Replied of payload old new id → DecisionWaits of new id
+    said_login phase payload logging quiet replied =
+        let told = login_answer plainly (of.served old).state payload replied.messages (of.served new).state (subst (λ (p : Phase). IsLoggingIn p) (sym quiet.phase_is) logging) replied.replies in
+        record {
+          alive = replied.alive;
+          message = told.message;
+          accepted = told.taken;
+          switched = told.asked;
+          waits = replied.waits ∙ ap (λ (l : List ℕ). l ++ packets_from id replied.messages) quiet.none ∙ ap (λ (l : List (List ℕ)). packets_from id l) told.messages_are;
+        }
+
+  -- the message that is heard is the first of those that wait, and the others wait behind it
+  module _ (old new : L) (id now : ℕ) (message : List ℕ) (delivers : Delivers of message old id new now) where
+    record IsNext (first : List ℕ) (others : List (List ℕ)) : Type 0 where
+      message_is : message ≡ first
+      waits : (of.served new).waiting ≡ packets_from now others
+
+    next_is : (first : List ℕ) (others messages : List (List ℕ)) → messages ≡ first ∷ others → (of.served old).waiting ≡ packets_from id messages → IsNext first others
+    next_is first others messages messages_are waits =
+        let parts = same_packets id message first (of.served new).waiting (packets_from (id_behind (packet_count (length first)) id) others) (sym delivers.gives.waits ∙ waits ∙ ap (λ (l : List (List ℕ)). packets_from id l) messages_are) in
+        record {
+          message_is = parts.0;
+          waits = parts.1 ∙ ap (λ (l : List ℕ). packets_from (id_behind (packet_count (length l)) id) others) (sym parts.0) ∙ ap (λ (n : ℕ). packets_from n others) (sym delivers.id);
+        }
+
+    still : (phase : Phase) → (of.served old).state.phase ≡ phase → (of.served new).state.phase ≡ phase
+    still phase is = ap (λ (s : State). s.phase) delivers.gives.state ∙ is
+
+    -- behind a reply's first message
+    module _ (reply : Option Reply) (reply_is : reply_of message ≡ reply) (waits : ReplyWaits of old id) where
+      first : IsNext waits.is_reply.first waits.is_reply.others
+      first = next_is waits.is_reply.first waits.is_reply.others waits.messages waits.is_reply.messages_are waits.waits
+
+      follows : Follows reply waits.is_reply.others
+      follows = subst (λ (r : Option Reply). Follows r waits.is_reply.others) (ap (λ (l : List ℕ). reply_of l) (sym first.message_is) ∙ reply_is) waits.is_reply.follows
+
+      alone : waits.is_reply.others ≡ [] → IsOpen of new now idle
+      alone none = open_idle new now delivers.gives.alive (still in_session waits.phase) (first.waits ∙ ap (λ (l : List (List ℕ)). packets_from now l) none)
+
+      heard_done : reply ≡ Some Done → IsOpen of new now idle
+      heard_done is = alone (subst (λ (r : Option Reply). Follows r waits.is_reply.others) is follows)
+
+      heard_refusal : (refusal : Refusal) → reply ≡ Some (IsRefused refusal) → IsOpen of new now idle
+      heard_refusal refusal is = alone (subst (λ (r : Option Reply). Follows r waits.is_reply.others) is follows)
+
+      heard_columns : (columns : ℕ) → reply ≡ Some (Columns columns) → 0 < columns → IsOpen of new now (counted columns)
+      heard_columns columns is some = open_rest new now (counted columns) delivers.gives.alive (still in_session waits.phase) some record {
+        messages = waits.is_reply.others;
+        completes = subst (λ (r : Option Reply). Follows r waits.is_reply.others) is follows;
+        waits = first.waits;
+      }
+
+    -- behind a message of a result set
+    module _ (reading : Reading) (some : 0 < reading.columns) (is_open : IsOpen of old id reading) where
+      begun : Begins reading (is_open.rest some).messages
+      begun = completes_begins reading (is_open.rest some).messages (is_open.rest some).completes
+
+      heard : IsNext begun.first begun.others
+      heard = next_is begun.first begun.others (is_open.rest some).messages begun.messages_are (is_open.rest some).waits
+
+      rest : (turn : Further) → further_of reading message ≡ turn → RestBehind reading turn begun.others
+      rest turn is = subst (λ (f : Further). RestBehind reading f begun.others) (ap (λ (l : List ℕ). further_of reading l) (sym heard.message_is) ∙ is) begun.rest
+
+      pub heard_definition : (next : Reading) → next ≡ after reading definition → further_of reading message ≡ definition → IsOpen of new now next
+      heard_definition next next_reading is = subst (λ (r : Reading). IsOpen of new now r) (sym next_reading) (
+          open_rest new now (after reading definition) delivers.gives.alive (still in_session is_open.phase) some record { messages = begun.others; completes = rest definition is; waits = heard.waits })
+
+      pub heard_row : (next : Reading) (cells : List Cell) → next ≡ reading → further_of reading message ≡ row cells → IsOpen of new now next
+      heard_row next cells same is = subst (λ (r : Reading). IsOpen of new now r) (sym same) (
+          open_rest new now reading delivers.gives.alive (still in_session is_open.phase) some record { messages = begun.others; completes = rest (row cells) is; waits = heard.waits })
+
+      at_end : begun.others ≡ [] → IsOpen of new now idle
+      at_end none = open_idle new now delivers.gives.alive (still in_session is_open.phase) (heard.waits ∙ ap (λ (l : List (List ℕ)). packets_from now l) none)
+
+      pub heard_end : (next : Reading) → next ≡ idle → further_of reading message ≡ end → IsOpen of new now next
+      heard_end next is_idle is = subst (λ (r : Reading). IsOpen of new now r) (sym is_idle) (at_end (rest end is))
+
+      pub heard_break : (next : Reading) (refusal : Refusal) → next ≡ idle → further_of reading message ≡ refused refusal → IsOpen of new now next
+      heard_break next refusal is_idle is = subst (λ (r : Reading). IsOpen of new now r) (sym is_idle) (at_end (rest (refused refusal) is))
+
+    -- behind the answer to a login
+    module _ (waits : DecisionWaits of old id) where
+      decided : IsNext waits.message []
+      decided = next_is waits.message [] (waits.message ∷ []) refl waits.waits
+
+      pub heard_accepted : reply_of message ≡ Some Done → IsQuiet of in_session new
+      heard_accepted is = record {
+        alive = delivers.gives.alive;
+        phase_is = still in_session (waits.accepted (ap (λ (l : List ℕ). reply_of l) (sym decided.message_is) ∙ is));
+        none = decided.waits;
+      }
+
+      pub heard_switch : (found : Switch) → switch_of message ≡ Ok found → IsQuiet of switching new
+      heard_switch found is = record {
+        alive = delivers.gives.alive;
+        phase_is = still switching (waits.switched found (ap (λ (l : List ℕ). switch_of l) (sym decided.message_is) ∙ is));
+        none = decided.waits;
+      }
+
+    -- behind the greeting
+    pub heard_greeting : id ≡ 0 → GreetingWaits of old → IsQuiet of greeted new
+    heard_greeting first_id waits =
+        let only = next_is waits.greeting [] (waits.greeting ∷ []) refl (waits.waits ∙ ap (λ (n : ℕ). packets n waits.greeting) (sym first_id) ∙ sym (append-nil (packets id waits.greeting))) in
+        record { alive = delivers.gives.alive; phase_is = still greeted waits.phase; none = only.waits }
+
+  -- what a command leaves
+  module _ (old new : L) (id now : ℕ) (serving : IsServing of old) (waits : ReplyWaits of old id) where
+    pub answered : (result : Result (Unit {0}) SessionFault) → OnOk result (IsServing of old → DeliversReply of (Some Done) old id new now) → IfErr result (λ fault. ends_session fault ≡ false → IsServing of old → DeliversRefusal of old id new now) → failed_by result ≡ false → IsOpen of new now idle
+    answered (Ok finished) says refuses goes_on =
+        let reply = says serving in
+        heard_done old new id now reply.message reply.delivers (Some Done) reply.reply_is waits refl
+    answered (Err fault) says refuses goes_on =
+        let refusal = refuses goes_on serving in
+        heard_refusal old new id now refusal.delivers.message refusal.delivers.delivers (Some (IsRefused refusal.refusal)) refusal.delivers.reply_is waits refusal.refusal refl
+
+  -- what hearing the number of columns leaves
+  module _ (old new : L) (id now : ℕ) (stays : Stays of old new) (waits : of.honest old → ReplyWaits of old id) (reply : Option Reply) (heard : IsServing of old → DeliversReply of reply old id new now) where
+    pub count_heard : (columns : ℕ) → reply ≡ Some (Columns columns) → 0 < columns → of.honest new → IsOpen of new now (counted columns)
+    count_heard columns is some h =
+        let before = waits (stays.honest.1 h) in
+        let told = heard (record { honest = stays.honest.1 h; alive = before.alive }) in
+        heard_columns old new id now told.message told.delivers reply told.reply_is before columns is some
+
+    pub count_refused : (refusal : Refusal) → reply ≡ Some (IsRefused refusal) → of.honest new → IsOpen of new now idle
+    count_refused refusal is h =
+        let before = waits (stays.honest.1 h) in
+        let told = heard (record { honest = stays.honest.1 h; alive = before.alive }) in
+        heard_refusal old new id now told.message told.delivers reply told.reply_is before refusal is
+
+  -- what hearing a further message of a result set leaves
+  module _ (old new : L) (id now : ℕ) (reading : Reading) (message : List ℕ) (stays : Stays of old new) (some : 0 < reading.columns) (waits : of.honest old → IsOpen of old id reading) (heard : IsServing of old → Delivers of message old id new now) where
+    pub definition_heard : (next : Reading) → next ≡ after reading definition → further_of reading message ≡ definition → of.honest new → IsOpen of new now next
+    definition_heard next next_is is h =
+        let before = waits (stays.honest.1 h) in
+        heard_definition old new id now message (heard (record { honest = stays.honest.1 h; alive = before.alive })) reading some before next next_is is
+
+    pub row_heard : (form : Form) (place : ℕ) (next : Reading) (result : Result Bool SessionFault) → Judges reading form message place result next → failed_by result ≡ false → of.honest new → IsOpen of new now next
+    row_heard form place next (Ok true) judges goes_on h =
+        let before = waits (stays.honest.1 h) in
+        heard_row old new id now message (heard (record { honest = stays.honest.1 h; alive = before.alive })) reading some before next judges.0.cells judges.1 judges.0.is
+    row_heard form place next (Ok false) judges goes_on h =
+        let before = waits (stays.honest.1 h) in
+        heard_end old new id now message (heard (record { honest = stays.honest.1 h; alive = before.alive })) reading some before next judges.1 judges.0
+    row_heard form place next (Err fault) judges goes_on h =
+        let before = waits (stays.honest.1 h) in
+        let refusal = refused_by form place (further_of reading message) fault judges.0 goes_on in
+        heard_break old new id now message (heard (record { honest = stays.honest.1 h; alive = before.alive })) reading some before next refusal.0 judges.1 refusal.1
+
+  -- on a new link the greeting waits
+  pub new_link_greets : (link : L) (site : ServedSite) (sole : Bool) → IsNewLink site sole (of.served link) → GreetingWaits of link
+  new_link_greets link site sole is_new = record { phase = ap (λ (s : State). s.phase) is_new.state_is; greeting = is_new.greeting; greets = subst (λ (b : Bool). IsGreeting b is_new.greeting) (sym (ap (λ (s : State). s.terms.willing) is_new.state_is)) is_new.greets; waits = is_new.waits }
+
+  -- what hearing the greeting leaves
+  pub greeting_comes : (link : L) (id : ℕ) → id ≡ 0 → (IsServing of link → GreetingWaits of link) → IsServing of link → MessageWaits id (of.served link).waiting
+  greeting_comes link id first_id waits serving =
+      let greeting = waits serving in
+      record { message = greeting.greeting; behind = []; waits = greeting.waits ∙ sym (append-nil (packets 0 greeting.greeting)) ∙ ap (λ (n : ℕ). packets n greeting.greeting ++ []) (sym first_id) }
+
+  pub greeting_heard : (old new : L) (id now : ℕ) (message : List ℕ) → id ≡ 0 → (IsServing of old → GreetingWaits of old) → (of.honest old → (of.served old).failed ≡ false) → (IsServing of old → Delivers of message old id new now) → of.honest old → IsQuiet of greeted new
+  greeting_heard old new id now message first_id waits alive heard h =
+      let serving : IsServing of old = record { honest = h; alive = alive h } in
+      heard_greeting old new id now message (heard serving) first_id (waits serving)
+
+  -- what hearing the answer to a login leaves
+  module _ (old new : L) (id now : ℕ) (stays : Stays of old new) (waits : of.honest old → DecisionWaits of old id) where
+    pub decision_heard : (message payload : List ℕ) (Not : SessionFault → Type 0) (result : Result Decision SessionFault) → (IsServing of old → Delivers of message old id new now) → payload ≡ message → MatchResult result (λ found. IsDecision found payload) Not → IfOk result (λ found. of.honest new → IsQuiet of (phase_behind found) new)
+    decision_heard message payload Not (Ok Accepted) hears is judged = λ h.
+        let before = waits (stays.honest.1 h) in
+        heard_accepted old new id now message (hears (record { honest = stays.honest.1 h; alive = before.alive })) before (ap (λ (l : List ℕ). reply_of l) (sym is) ∙ judged)
+    decision_heard message payload Not (Ok (Switched found)) hears is judged = λ h.
+        let before = waits (stays.honest.1 h) in
+        heard_switch old new id now message (hears (record { honest = stays.honest.1 h; alive = before.alive })) before found (ap (λ (l : List ℕ). switch_of l) (sym is) ∙ judged.1)
+    decision_heard message payload Not (Err fault) hears is judged = tt
+
+    pub acceptance_heard : (result : Result (Unit {0}) SessionFault) → OnOk result (IsServing of old → DeliversReply of (Some Done) old id new now) → OnOk result (of.honest new → IsQuiet of in_session new)
+    acceptance_heard (Ok finished) hears = λ h.
+        let before = waits (stays.honest.1 h) in
+        let told = hears (record { honest = stays.honest.1 h; alive = before.alive }) in
+        heard_accepted old new id now told.message told.delivers before told.reply_is
+    acceptance_heard (Err fault) hears = tt

@@ -1,0 +1,98 @@
+-- What waits on the link of an honest server while a session is in step with it.
+use Rattle.std.specs.Prelude.{ℕ, ◌≡◌, ◌<◌, false, List, [], ◌∷◌, Option, Some, None, Ok}
+use Rattle.honest_server.specs.Exchange.{IsGreeting, packets_from}
+use Rattle.honest_server.specs.State.{Phase, greeted, switching, in_session}
+use Rattle.link_traits.specs.declared.link.Link.{Ghosts}
+use Rattle.my_login.specs.Switch.{switch_of}
+use Rattle.my_login.specs.declared.switch.Switch.{Switch}
+use Rattle.my_packets.specs.Packet.{packets}
+use Rattle.object_texts.specs.Head.{HasHead}
+use Rattle.result_rows.specs.Reading.{Reading, definition, row, end, refused, counted, further_of, after}
+use Rattle.result_rows.specs.Reply.{reply_of}
+use Rattle.result_rows.specs.Row.{Cell}
+use Rattle.result_rows.specs.declared.reader.Reply.{Reply}
+use Rattle.result_rows.specs.declared.reader.Reply.TheVariants.{Done, Refused, Columns}
+use Rattle.result_rows.specs.declared.refusal.Refusal.{Refusal}
+use Rattle.sql_statements.specs.Text.{command_text}
+use Rattle.sql_statements.specs.declared.command.Command.{Command}
+use Rattle.my_session.specs.Session.{SessionView}
+use Rattle.my_session.specs.declared.login.Decision.{Decision}
+use Rattle.my_session.specs.declared.login.Decision.TheVariants.{Accepted, Switched}
+
+-- the messages are the rest of a result set for a reader that is here: column definitions, rows, and an EOF or an ERR at the end
+pub data Completes : Reading → List (List ℕ) → Type 0 where
+  ends : {reading : Reading} {message : List ℕ} → further_of reading message ≡ end → Completes reading (message ∷ [])
+  breaks_off : {reading : Reading} {message : List ℕ} {refusal : Refusal} → further_of reading message ≡ refused refusal → Completes reading (message ∷ [])
+  defines : {reading : Reading} {message : List ℕ} {messages : List (List ℕ)} → further_of reading message ≡ definition → Completes (after reading definition) messages → Completes reading (message ∷ messages)
+  has_row : {reading : Reading} {message : List ℕ} {messages : List (List ℕ)} {cells : List Cell} → further_of reading message ≡ row cells → Completes reading messages → Completes reading (message ∷ messages)
+
+-- the packets of the rest of a result set wait, from this id on
+pub record WaitsRest (reading : Reading) (id : ℕ) (waiting : List ℕ) : Type 0 where
+  pub messages : List (List ℕ)
+  pub completes : Completes reading messages
+  pub waits : waiting ≡ packets_from id messages
+
+-- what follows a reply's first message: nothing behind an OK or an ERR
+abbrev pub Follows : Option Reply → List (List ℕ) → Type 0
+Follows None others = ⊥
+Follows (Some Done) others = others ≡ []
+Follows (Some (Refused refusal)) others = others ≡ []
+Follows (Some (Columns columns)) others = Completes (counted columns) others
+
+-- the messages are a whole reply
+pub record IsReply (messages : List (List ℕ)) : Type 0 where
+  pub first : List ℕ
+  pub others : List (List ℕ)
+  pub messages_are : messages ≡ first ∷ others
+  pub follows : Follows (reply_of first) others
+
+-- where a link is behind a decision
+abbrev pub phase_behind : Decision → Phase
+phase_behind Accepted = in_session
+phase_behind (Switched found) = switching
+
+module _ {L : Type 0} (of : Ghosts L) where
+  -- a link in this phase, on which nothing waits
+  pub record IsQuiet (phase : Phase) (link : L) : Type 0 where
+    pub alive : (of.served link).failed ≡ false
+    pub phase_is : (of.served link).state.phase ≡ phase
+    pub none : (of.served link).waiting ≡ []
+
+  -- the answer to a login waits, from this id on: an OK only where the session is open, and a request for another scramble only where
+  -- its answer is awaited
+  pub record DecisionWaits (link : L) (id : ℕ) : Type 0 where
+    pub alive : (of.served link).failed ≡ false
+    pub message : List ℕ
+    pub accepted : reply_of message ≡ Some Done → (of.served link).state.phase ≡ in_session
+    pub switched : (found : Switch) → switch_of message ≡ Ok found → (of.served link).state.phase ≡ switching
+    pub waits : (of.served link).waiting ≡ packets_from id (message ∷ [])
+
+  -- a reply waits in an open session, from this id on
+  pub record ReplyWaits (link : L) (id : ℕ) : Type 0 where
+    pub alive : (of.served link).failed ≡ false
+    pub phase : (of.served link).state.phase ≡ in_session
+    pub messages : List (List ℕ)
+    pub is_reply : IsReply messages
+    pub waits : (of.served link).waiting ≡ packets_from id messages
+
+  -- the link is in a session that is open, and the rest of what is pending waits, from this id on: where nothing is pending, nothing
+  pub record IsOpen (link : L) (id : ℕ) (reading : Reading) : Type 0 where
+    pub alive : (of.served link).failed ≡ false
+    pub phase : (of.served link).state.phase ≡ in_session
+    pub none : reading.columns ≡ 0 → (of.served link).waiting ≡ []
+    pub rest : 0 < reading.columns → WaitsRest reading id (of.served link).waiting
+
+  -- a session that hasn't failed is in step with an honest server
+  abbrev pub IsInStep : SessionView L → Type 0
+  IsInStep session = of.honest session.link → session.has_failed ≡ false → IsOpen session.link session.id session.pending.reading
+
+  -- a link on which the greeting waits, and nothing else
+  pub record GreetingWaits (link : L) : Type 0 where
+    pub phase : (of.served link).state.phase ≡ greeted
+    pub greeting : List ℕ
+    pub greets : IsGreeting (of.served link).state.terms.willing greeting
+    pub waits : (of.served link).waiting ≡ packets 0 greeting
+
+-- the command makes no object
+abbrev pub MakesNothing : Command → Type 0
+MakesNothing command = HasHead (command_text command) → ⊥

@@ -1,0 +1,72 @@
+-- What is heard and sent on a link whose server is honest.
+use Rattle.std.specs.Prelude.{ℕ, ◌≡◌, ◌↔◌, false, List, ◌++◌, length, Option, Some}
+use Rattle.honest_server.specs.Exchange.{Replies, packets_from, query_payload}
+use Rattle.honest_server.specs.Moves.{plainly}
+use Rattle.link_traits.specs.declared.link.Link.{Ghosts}
+use Rattle.my_packets.specs.Packet.{packets, packet_count, id_behind}
+use Rattle.my_packets.specs.Skimmed.{Skimmed as SkimmedView}
+use Rattle.my_packets.specs.Skims.{Skims}
+use Rattle.object_texts.specs.Head.{HasHead}
+use Rattle.result_rows.specs.Reply.{reply_of}
+use Rattle.result_rows.specs.declared.refusal.Refusal.{Refusal}
+use Rattle.result_rows.specs.declared.reader.Reply.{Reply}
+use Rattle.result_rows.specs.declared.reader.Reply.TheVariants.{Refused}
+
+-- a whole message waits, whose packets begin with this id
+pub record MessageWaits (id : ℕ) (waiting : List ℕ) : Type 0 where
+  pub message : List ℕ
+  pub behind : List ℕ
+  pub waits : waiting ≡ packets id message ++ behind
+
+-- the payload isn't that of an object's text
+abbrev pub MakesNoObject : List ℕ → Type 0
+MakesNoObject payload = (text : List ℕ) → payload ≡ query_payload text → HasHead text → ⊥
+
+module _ {L : Type 0} (of : Ghosts L) where
+  -- the server is honest, and the link hasn't failed
+  pub record IsServing (link : L) : Type 0 where
+    pub honest : of.honest link
+    pub alive : (of.served link).failed ≡ false
+
+  -- what is the same of a link, whatever is done on it: one that has failed stays so
+  pub record Stays (old new : L) : Type 0 where
+    pub honest : of.honest old ↔ of.honest new
+    pub origin : of.same_origin old new
+    pub terms : of.honest old → (of.served new).state.terms ≡ (of.served old).state.terms
+    pub back : of.honest old → (of.served new).failed ≡ false → (of.served old).failed ≡ false
+
+  -- these bytes were taken off what waits, and nothing else has changed
+  pub record Gives (bytes : List ℕ) (old new : L) : Type 0 where
+    pub alive : (of.served new).failed ≡ false
+    pub state : (of.served new).state ≡ (of.served old).state
+    pub waits : (of.served old).waiting ≡ bytes ++ (of.served new).waiting
+
+  -- those of a message, behind which the next packet has this id
+  pub record Delivers (message : List ℕ) (old : L) (id_before : ℕ) (new : L) (id_now : ℕ) : Type 0 where
+    pub gives : Gives (packets id_before message) old new
+    pub id : id_now ≡ id_behind (packet_count (length message)) id_before
+
+  -- those of a message of which a skim kept the front
+  pub record DeliversFront (skim : SkimmedView) (old : L) (id_before : ℕ) (new : L) (id_now : ℕ) : Type 0 where
+    pub message : List ℕ
+    pub delivers : Delivers message old id_before new id_now
+    pub skims : Skims id_before 67108864 (packets id_before message) skim
+
+  -- those of a message that is this reply's first, or spells none
+  pub record DeliversReply (reply : Option Reply) (old : L) (id_before : ℕ) (new : L) (id_now : ℕ) : Type 0 where
+    pub message : List ℕ
+    pub delivers : Delivers message old id_before new id_now
+    pub reply_is : reply_of message ≡ reply
+
+  -- those of an ERR
+  pub record DeliversRefusal (old : L) (id_before : ℕ) (new : L) (id_now : ℕ) : Type 0 where
+    pub refusal : Refusal
+    pub delivers : DeliversReply (Some (Refused refusal)) old id_before new id_now
+
+  -- the server has handled a payload, and the packets of its reply wait too, from this id on
+  pub record Replied (payload : List ℕ) (old new : L) (id : ℕ) : Type 0 where
+    pub messages : List (List ℕ)
+    pub replies : Replies plainly (of.served old).state payload messages (of.served new).state
+    pub was_alive : (of.served old).failed ≡ false
+    pub alive : (of.served new).failed ≡ false
+    pub waits : (of.served new).waiting ≡ (of.served old).waiting ++ packets_from id messages
