@@ -1,5 +1,5 @@
 -- What the calls of a session do to a dump.
-use Rattle.std.proofs.Common.{◌≡◌, ◌≤◌, ◌-◌, ◌+◌, ◌==◌, ◌⊎◌, ℕ, zero, suc, Bool, true, false, if◌then◌else◌, List, [], ◌∷◌, ◌++◌, length, map, Option, Some, None, Result, Ok, Err, refl, sym, ◌∙◌, ap, subst, inl, inr, arith}
+use Rattle.std.proofs.Common.{◌≡◌, ◌≤◌, ◌-◌, ◌==◌, ◌⊎◌, ℕ, suc, Bool, true, false, if◌then◌else◌, List, [], ◌∷◌, ◌++◌, length, map, Option, Some, None, Result, Ok, Err, refl, sym, ◌∙◌, ap, subst, inl, inr, arith}
 use Rattle.std.specs.Prelude.{replicate, option_map}
 use Rattle.std.proofs.lemmas.Bool.Decides.{nat_tests}
 use Rattle.my_login.specs.Response.{response}
@@ -11,8 +11,7 @@ use Rattle.my_login.specs.declared.greeting.Greeting.{Greeting}
 use Rattle.my_login.specs.declared.switch.Switch.{Switch}
 use Rattle.my_session.specs.Awaited.{Awaited, greeting, decision, done, count, further, fault_at, greeting_fault, switch_fault, decision_fault, done_fault, count_fault, further_fault}
 use Rattle.my_session.specs.Halt.{Halts, Misheard, Unsaid, Stops, at_message, at_payload}
-use Rattle.my_session.specs.Login.{password_answer, switch_answer, IsGreeted, IsSwitched, IsAccepted, IsLoggedIn, IsSettingUp, LoginAwaits, a_greeting, a_decision, an_acceptance, a_set_up, AnswersGreeting, AnswersSwitch, LoginSends, the_response, the_switch_answer, the_set_up}
-use Rattle.my_session.specs.Session.{rows_of}
+use Rattle.my_session.specs.Login.{password_answer, switch_answer, IsGreeted, IsSwitched, IsAccepted, IsLoggedIn, IsSettingUp, LoginAwaits, a_greeting, a_decision, an_acceptance, a_set_up, LoginSends, the_response, the_switch_answer, the_set_up}
 use Rattle.my_session.specs.Statements.{command_payload, query_payload, IsRun, RunAwaits, an_ok, RunSends, IsLed, LeadAwaits, LeadSends, IsAsked, IsDescribed, QueryAwaits, a_lead, a_count, a_definition, QuerySends, the_lead, the_query}
 use Rattle.my_session.specs.Wire.{Wire, Hears, Step, commands, answers, hears, Leads, ends, behind_command, behind_answer, behind_message, Takes, behind_sent}
 use Rattle.my_session.specs.declared.fault.SessionFault.{SessionFault}
@@ -29,10 +28,9 @@ use Rattle.sql_statements.specs.Form.{command_form, query_form}
 use Rattle.sql_statements.specs.Text.{query_text}
 use Rattle.sql_statements.specs.declared.command.Command.{Command}
 use Rattle.sql_statements.specs.declared.command.Command.TheVariants.{SetUp}
-use Rattle.sql_statements.specs.declared.form.Form.{Form}
-use Rattle.sql_statements.specs.declared.form.Form.TheVariants.{Connect, Set, Select}
+use Rattle.sql_statements.specs.declared.form.Form.TheVariants.{Connect, Set}
 use Rattle.sql_statements.specs.declared.query.Query.{Query}
-use Rattle.dumper_cli.specs.Course.{Comes, at_start, commanded, answered, heard, IsOverlong, EndsAt, at_message as ends_at_message, at_disorder, at_length, at_limit, EndsWith, awaiting_it, sending_it}
+use Rattle.dumper_cli.specs.Course.{Comes, at_start, commanded, answered, heard, at_message as ends_at_message, at_disorder, at_length, at_limit, EndsWith, awaiting_it, sending_it}
 use Rattle.dumper_cli.specs.Run.{SaidFront}
 use Rattle.dumper_cli.specs.Stage.{Stage, awaits_greeting, sends_response, awaits_decision, sends_switch_answer, awaits_acceptance, sends_set_up, awaits_set_up, sends_names, commanding, answering, awaiting, doing, behind, behind_greeting, behind_switch, behind_decision, behind_ok, behind_count}
 use Rattle.dumper_cli.specs.Words.{Asked}

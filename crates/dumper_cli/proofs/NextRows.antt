@@ -1,5 +1,5 @@
 -- What the next row of a reply does to a dump.
-use Rattle.std.proofs.Common.{◌≡◌, ◌<◌, ℕ, List, [], ◌∷◌, ◌++◌, length, Option, Some, None, Result, Ok, Err, sym, ◌∙◌, ap, subst, arith}
+use Rattle.std.proofs.Common.{◌≡◌, ◌<◌, ◌↔◌, ℕ, List, [], ◌∷◌, ◌++◌, length, Option, Some, None, Result, Ok, Err, sym, ◌∙◌, ap, subst, arith}
 use Rattle.link_traits.specs.declared.link.Link.{Ghosts as LinkGhosts}
 use Rattle.link_traits.specs.declared.folder.Shelf.{Ghosts as ShelfGhosts}
 use Rattle.my_session.specs.Awaited.{further}
@@ -19,7 +19,7 @@ use Rattle.dumper_cli.specs.declared.column.Column.{Column}
 use Rattle.dumper_cli.specs.declared.data_file.DataFile.{DataFile}
 use Rattle.dumper_cli.specs.declared.fault.DumpFault.{DumpFault}
 use Rattle.dumper_cli.specs.declared.fault.DumpFault.TheVariants.{FolderNotEmpty, File, Session as InSession}
-use Rattle.dumper_cli.proofs.Reaching.{column_added, row_added, column_unfit, row_unfit, row_front, row_memory, rows_end, columns_end, no_columns, row_halts}
+use Rattle.dumper_cli.proofs.Reaching.{Keeps-by, column_added, row_added, column_unfit, row_unfit, row_front, row_memory, rows_end, columns_end, no_columns, row_halts}
 
 -- a session as a reader of rows
 abbrev pub as_reader : {L : Type 0} → LinkGhosts L → SessionView L → ReaderView
@@ -27,11 +27,11 @@ as_reader of session = record { wire = wire_of of session; faults = of.faults se
 
 -- what the next row does to a session
 abbrev pub Nexts : {L : Type 0} → LinkGhosts L → SessionView L → Result (Option Row) SessionFault → SessionView L → Type 0
-Nexts of old result new = NextRow (of.tells old.link) (as_reader of old) result (of.tells new.link) (as_reader of new)
+Nexts of old result new = NextRow (of.tells old.link) (as_reader of old) result (of.tells new.link) (as_reader of new) × (of.honest old.link ↔ of.honest new.link) × of.same_origin old.link new.link × (of.honest old.link → (of.served new.link).state.terms ≡ (of.served old.link).state.terms)
 
-module _ {L : Type 0} (of : LinkGhosts L) (old new : SessionView L) where
+module _ {L : Type 0} (of : LinkGhosts L) (joins : (one next last : L) → of.same_origin one next → of.same_origin next last → of.same_origin one last) (old new : SessionView L) where
   pub nexts_keeps : (result : Result (Option Row) SessionFault) → Nexts of old result new → Keeps of old new
-  nexts_keeps result next = record { tells = next.still; later = next.counted.later }
+  nexts_keeps result next = Keeps-by of joins old new next.0.still next.0.counted.later next.1 next.2
 
   module _ (has_rows : HasRows old) where
     -- ---- a row
@@ -39,9 +39,9 @@ module _ {L : Type 0} (of : LinkGhosts L) (old new : SessionView L) where
     module _ (found : Row) (next : Nexts of old (Ok (Some found)) new) where
       rows_still : HasRows new
       rows_still =
-          let same : new.pending ≡ old.pending = next.pending in
+          let same : new.pending ≡ old.pending = next.0.pending in
           record {
-            alive = next.has_failed;
+            alive = next.0.has_failed;
             some = subst (λ (p : Pending). 0 < p.reading.columns) (sym same) has_rows.some;
             rows = ap (λ (p : Pending). p.reading.awaited) same ∙ has_rows.rows;
             form = ap (λ (p : Pending). p.form) same ∙ has_rows.form;
@@ -53,45 +53,47 @@ module _ {L : Type 0} (of : LinkGhosts L) (old new : SessionView L) where
       pub nexts_column : (columns more : List Column) → AddsColumn (row_cells found) columns more → ColumnAdded of columns old more new
       nexts_column columns more adds = record {
         has_rows = rows_still;
-        onward = next.onward;
-        reached = λ asked start at. subst (λ (p : Pending). Reached of asked (awaits_columns p.reading more) start new) (sym next.pending) (column_added of asked start old new row_keeps found next.takes columns more adds.column adds.column_is adds.new_is at);
+        pending = next.0.pending;
+        onward = next.0.onward;
+        reached = λ asked start at. subst (λ (p : Pending). Reached of asked (awaits_columns p.reading more) start new) (sym next.0.pending) (column_added of asked start old new row_keeps found next.0.takes columns more adds.column adds.column_is adds.new_is at);
       }
 
       pub nexts_no_column : (columns : List Column) (fault : SessionFault) → Untold (row_cells found) found.place fault → (asked : Asked) (start : Start) → Reached of asked (awaits_columns old.pending.reading columns) start old → Halted of asked start new.link fault
       nexts_no_column columns Link why asked start at = absurd why
       nexts_no_column columns (Refused form refusal) why asked start at = absurd why
-      nexts_no_column columns (Garbled place) why asked start at = subst (λ (p : ℕ). Halted of asked start new.link (Garbled p)) (sym why.0) (column_unfit of asked start old new row_keeps found next.takes columns why.1 at)
+      nexts_no_column columns (Garbled place) why asked start at = subst (λ (p : ℕ). Halted of asked start new.link (Garbled p)) (sym why.0) (column_unfit of asked start old new row_keeps found next.0.takes columns why.1 at)
       nexts_no_column columns (NotProtocol10 version) why asked start at = absurd why
       nexts_no_column columns (PluginUnsupported name) why asked start at = absurd why
       nexts_no_column columns (TooLong size) why asked start at = absurd why
       nexts_no_column columns StreamTooLong why asked start at = absurd why
-      nexts_no_column columns OutOfMemory why asked start at = row_memory of asked start old new row_keeps found next.takes (awaits_columns old.pending.reading columns) at
+      nexts_no_column columns OutOfMemory why asked start at = row_memory of asked start old new row_keeps found next.0.takes (awaits_columns old.pending.reading columns) at
 
       unspelled_halts : (columns : List Column) (rows : List (List Cell)) (fault : SessionFault) → Unspelled columns (row_cells found) found.place fault → (asked : Asked) (start : Start) → Reached of asked (awaits_rows old.pending.reading columns rows) start old → Halted of asked start new.link fault
       unspelled_halts columns rows Link why asked start at = absurd why
       unspelled_halts columns rows (Refused form refusal) why asked start at = absurd why
-      unspelled_halts columns rows (Garbled place) why asked start at = subst (λ (p : ℕ). Halted of asked start new.link (Garbled p)) (sym why.0) (row_unfit of asked start old new row_keeps found next.takes columns rows why.1 at)
+      unspelled_halts columns rows (Garbled place) why asked start at = subst (λ (p : ℕ). Halted of asked start new.link (Garbled p)) (sym why.0) (row_unfit of asked start old new row_keeps found next.0.takes columns rows why.1 at)
       unspelled_halts columns rows (NotProtocol10 version) why asked start at = absurd why
       unspelled_halts columns rows (PluginUnsupported name) why asked start at = absurd why
       unspelled_halts columns rows (TooLong size) why asked start at = absurd why
       unspelled_halts columns rows StreamTooLong why asked start at = absurd why
-      unspelled_halts columns rows OutOfMemory why asked start at = row_memory of asked start old new row_keeps found next.takes (awaits_rows old.pending.reading columns rows) at
+      unspelled_halts columns rows OutOfMemory why asked start at = row_memory of asked start old new row_keeps found next.0.takes (awaits_rows old.pending.reading columns rows) at
 
       module _ {S : Type 0} (shelf : ShelfGhosts S) (columns : List Column) (file new_file : DataFile S shelf) where
         pub nexts_row : AddsRow shelf columns (row_cells found) file new_file → RowAdded of shelf columns old file new new_file
         nexts_row adds = record {
           has_rows = rows_still;
-          onward = next.onward;
+          pending = next.0.pending;
+          onward = next.0.onward;
           cells = row_cells found;
           reached = λ asked rows start at.
-              subst (λ (p : Pending). Reached of asked (awaits_rows p.reading columns (rows ++ row_cells found ∷ [])) start new) (sym next.pending) (row_added of asked start old new row_keeps found next.takes columns rows adds.fits at);
+              subst (λ (p : Pending). Reached of asked (awaits_rows p.reading columns (rows ++ row_cells found ∷ [])) start new) (sym next.0.pending) (row_added of asked start old new row_keeps found next.0.takes columns rows adds.fits at);
           writes = adds.writes;
         }
 
         pub nexts_no_row : (fault : DumpFault) → Unwritten shelf columns (row_cells found) found.place file new_file fault → (asked : Asked) (rows : List (List Cell)) (start : Start) → Reached of asked (awaits_rows old.pending.reading columns rows) start old → Broke of shelf asked start file.shelf new.link new_file.shelf fault
         nexts_no_row (FolderNotEmpty name) why asked rows start at = absurd why
         nexts_no_row File why asked rows start at = (
-          record { later = (let one = at.later in let two = next.counted.later in omega arith); front = row_front of asked start old new row_keeps found next.takes (awaits_rows old.pending.reading columns rows) at },
+          record { later = (let one = at.later in let two = next.0.counted.later in omega arith); front = row_front of asked start old new row_keeps found next.0.takes (awaits_rows old.pending.reading columns rows) at },
           why,
         )
         nexts_no_row (InSession fault) why asked rows start at = unspelled_halts columns rows fault why asked start at
@@ -100,7 +102,7 @@ module _ {L : Type 0} (of : LinkGhosts L) (old new : SessionView L) where
 
     module _ (next : Nexts of old (Ok None) new) where
       end_ready : IsReady new
-      end_ready = record { alive = next.has_failed; none_pending = next.pending }
+      end_ready = record { alive = next.0.has_failed; none_pending = next.0.pending }
 
       end_keeps : Keeps of old new
       end_keeps = nexts_keeps (Ok None) next
@@ -109,16 +111,16 @@ module _ {L : Type 0} (of : LinkGhosts L) (old new : SessionView L) where
       nexts_columns_end columns some = record {
         ready = end_ready;
         some = some;
-        reached = λ asked start at. columns_end of asked start old new end_keeps next.takes columns some at;
+        reached = λ asked start at. columns_end of asked start old new end_keeps next.0.takes columns some at;
       }
 
       pub nexts_no_columns : (columns : List Column) → length columns ≡ 0 → (asked : Asked) (start : Start) → Reached of asked (awaits_columns old.pending.reading columns) start old → Halted of asked start new.link (Garbled old.place)
-      nexts_no_columns columns none asked start at = no_columns of asked start old new end_keeps next.takes columns none at
+      nexts_no_columns columns none asked start at = no_columns of asked start old new end_keeps next.0.takes columns none at
 
       pub nexts_rows_end : {S : Type 0} (shelf : ShelfGhosts S) (columns : List Column) (file : DataFile S shelf) → RowsEnd of shelf columns old file new file
       nexts_rows_end shelf columns file = record {
         ready = end_ready;
-        reached = λ asked rows start at. rows_end of asked start old new end_keeps next.takes columns rows at;
+        reached = λ asked rows start at. rows_end of asked start old new end_keeps next.0.takes columns rows at;
         writes = λ schema table rows writing. writing;
       }
 
@@ -126,4 +128,4 @@ module _ {L : Type 0} (of : LinkGhosts L) (old new : SessionView L) where
 
     pub nexts_halt : (fault : SessionFault) → Nexts of old (Err fault) new → (asked : Asked) (start : Start) (stage : Stage) → doing asked stage ≡ awaiting (further Select old.pending.reading) → Reached of asked stage start old → Halted of asked start new.link fault
     nexts_halt fault next asked start stage waits at =
-        row_halts of asked start old new (nexts_keeps (Err fault) next) has_rows.form fault (λ e. next.counted.failed (ap (λ (f : SessionFault). Err f) e)) next.takes stage waits at
+        row_halts of asked start old new (nexts_keeps (Err fault) next) has_rows.form fault (λ e. next.0.counted.failed (ap (λ (f : SessionFault). Err f) e)) next.0.takes stage waits at

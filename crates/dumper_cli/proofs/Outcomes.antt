@@ -1,15 +1,13 @@
 -- What a server sends in a dump turns out to be one thing.
-use Rattle.std.proofs.Common.{◌≡◌, ◌<◌, ◌≤◌, ◌⊎◌, ℕ, List, length, Option, Some, None, refl, sym, ◌∙◌, ap, subst, inl, inr, arith}
-use Rattle.my_packets.specs.Front.{IsTooLong}
+use Rattle.std.proofs.Common.{◌≡◌, ◌<◌, ◌≤◌, ℕ, List, length, Option, Some, None, refl, sym, ◌∙◌, ap, subst, inl, inr, arith}
 use Rattle.my_session.proofs.OneNext.{one_next}
 use Rattle.my_session.specs.Awaited.{Awaited, fault_at}
-use Rattle.my_session.specs.Laws.{HasOneNext}
-use Rattle.my_session.specs.Wire.{Wire, Hears, behind_sent, within}
+use Rattle.my_session.specs.Wire.{Wire, Hears, behind_sent}
 use Rattle.my_session.specs.declared.fault.SessionFault.{SessionFault}
-use Rattle.my_session.specs.declared.fault.SessionFault.TheVariants.{Garbled, TooLong, StreamTooLong}
+use Rattle.my_session.specs.declared.fault.SessionFault.TheVariants.{TooLong}
 use Rattle.my_session.specs.declared.limits.TheConstants.{MESSAGE_LIMIT}
 use Rattle.sql_literals.specs.Literal.{Cell}
-use Rattle.dumper_cli.specs.Course.{Comes, at_start, commanded, answered, heard, IsWhole, IsUnfit, IsOverlong, EndsAt, at_message, at_unfit, at_disorder, at_length, at_limit, EndsWith, awaiting_it, sending_it, HasOneOutcome}
+use Rattle.dumper_cli.specs.Course.{Comes, at_start, commanded, answered, heard, IsWhole, IsOverlong, EndsAt, at_message, at_unfit, at_disorder, at_length, at_limit, EndsWith, awaiting_it, sending_it, HasOneOutcome}
 use Rattle.dumper_cli.specs.Stage.{Stage, Doing, awaits_greeting, is_over, commanding, answering, awaiting, nothing, doing, behind}
 use Rattle.dumper_cli.specs.Words.{Asked}
 use Rattle.dumper_cli.specs.declared.column.Column.{Column}

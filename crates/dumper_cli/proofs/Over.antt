@@ -1,5 +1,5 @@
 -- A whole dump, from the session to the link.
-use Rattle.std.proofs.Common.{◌≡◌, ◌≤◌, ◌↔◌, ℕ, Bool, true, false, List, [], ◌∷◌, ◌++◌, Result, Ok, Err, OnOk, refl, sym, ◌∙◌, ap, subst, inl, inr, arith}
+use Rattle.std.proofs.Common.{◌≡◌, ◌≤◌, ℕ, Bool, true, false, List, [], Result, Ok, Err, OnOk, refl, sym, ap, subst, inl, inr, arith}
 use Rattle.link_traits.specs.Cause.{Rose}
 use Rattle.link_traits.specs.declared.link.Link.{Ghosts as LinkGhosts}
 use Rattle.link_traits.specs.declared.folder.Shelf.{Ghosts as ShelfGhosts}
@@ -9,7 +9,7 @@ use Rattle.my_session.specs.declared.fault.SessionFault.TheVariants.{Link, Refus
 use Rattle.my_session.specs.declared.session.TheConstants.{QUIT}
 use Rattle.dumper_cli.specs.Next.{IsReady, Stands, Broke}
 use Rattle.dumper_cli.specs.OverLink.{Tabled, Conversed, LinkDumped, StoppedOver, FrontSaid, LinkStopped}
-use Rattle.dumper_cli.specs.Run.{Start, Reached, SaidFront, StoppedBy, Halted}
+use Rattle.dumper_cli.specs.Run.{Start, Reached, SaidFront, StoppedBy}
 use Rattle.dumper_cli.specs.Stage.{Stage, sends_names, awaits_rows}
 use Rattle.dumper_cli.specs.Words.{Asked}
 use Rattle.dumper_cli.specs.declared.column.Column.{Column}

@@ -1,5 +1,5 @@
 -- A dump over a link of a site, seen from the site.
-use Rattle.std.proofs.Common.{◌≡◌, ◌≤◌, ◌+◌, ◌-◌, ◌^◌, min, ℕ, List, [], ◌∷◌, ◌++◌, refl, ◌∙◌, ap, subst, inl, inr, arith}
+use Rattle.std.proofs.Common.{◌≡◌, ◌≤◌, ◌+◌, ◌-◌, ◌^◌, min, ℕ, List, [], ◌∷◌, refl, ◌∙◌, ap, subst, inl, inr, arith}
 use Rattle.link_traits.specs.Cause.{Rose}
 use Rattle.link_traits.specs.Link.{Told, joined, stream, begun}
 use Rattle.link_traits.specs.Site.{SiteTold, next_of, connected, returned}
@@ -9,7 +9,7 @@ use Rattle.my_session.specs.Session.{fresh}
 use Rattle.my_session.specs.Wire.{Wire}
 use Rattle.my_session.specs.declared.fault.SessionFault.{SessionFault}
 use Rattle.my_session.specs.declared.fault.SessionFault.TheVariants.{Link, Refused, Garbled, NotProtocol10, PluginUnsupported, TooLong, StreamTooLong, OutOfMemory}
-use Rattle.dumper_cli.specs.Course.{Comes, IsWhole, EndsWith}
+use Rattle.dumper_cli.specs.Course.{Comes, EndsWith}
 use Rattle.dumper_cli.specs.Outside.{next_wire, SaidAtMost, a_front, a_goodbye, EndedBy, SiteTabled}
 use Rattle.dumper_cli.specs.OverLink.{LinkDumped, LinkStopped, StoppedOver}
 use Rattle.dumper_cli.specs.Run.{SaidFront}

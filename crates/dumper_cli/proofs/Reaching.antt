@@ -1,11 +1,11 @@
 -- How a dump gets on, and where it stops, over a session.
-use Rattle.std.proofs.Common.{◌≡◌, ◌<◌, ◌≤◌, ◌+◌, ◌-◌, ◌↔◌, ℕ, Bool, true, false, List, [], ◌∷◌, ◌++◌, length, Option, Some, None, Result, Ok, Err, OnOk, refl, sym, ◌∙◌, ap, subst, arith}
+use Rattle.std.proofs.Common.{◌≡◌, ◌<◌, ◌≤◌, ◌↔◌, ℕ, Bool, true, false, List, [], ◌∷◌, ◌++◌, length, Option, Some, None, Result, Ok, Err, OnOk, refl, sym, ◌∙◌, ap, subst, arith}
 use Rattle.std.specs.Prelude.{IfErr}
 use Rattle.link_traits.specs.Cause.{Rose}
 use Rattle.link_traits.specs.declared.link.Link.{Ghosts}
 use Rattle.my_session.specs.Awaited.{further, further_fault}
 use Rattle.my_session.specs.Halt.{Halts}
-use Rattle.my_session.specs.Session.{SessionView, wire_of, IsCounted, Runs, Asks, HearsRow, HearsEnd, rows_of}
+use Rattle.my_session.specs.Session.{SessionView, Pending, wire_of, IsCounted, Runs, Asks, HearsRow, HearsEnd, rows_of}
 use Rattle.my_session.specs.Wire.{Hears}
 use Rattle.my_session.specs.declared.fault.SessionFault.{SessionFault}
 use Rattle.my_session.specs.declared.fault.SessionFault.TheVariants.{Link, Refused, Garbled, NotProtocol10, PluginUnsupported, TooLong, StreamTooLong, OutOfMemory}
@@ -19,7 +19,7 @@ use Rattle.sql_statements.specs.declared.form.Form.TheVariants.{Select}
 use Rattle.sql_statements.specs.declared.query.Query.TheVariants.{Columns as ColumnsQuery, Rows}
 use Rattle.dumper_cli.specs.Columns.{column_of, is_row_of}
 use Rattle.dumper_cli.specs.Course.{Comes, heard, at_unfit, awaiting_it}
-use Rattle.dumper_cli.specs.Next.{Keeps}
+use Rattle.dumper_cli.specs.Next.{Keeps, HasRows}
 use Rattle.dumper_cli.specs.Run.{Start, SaidFront, Reached, StoppedBy, Halted}
 use Rattle.dumper_cli.specs.Stage.{Stage, sends_names, awaits_names, asks_columns, awaits_column_count, awaits_columns, asks_rows, awaits_row_count, awaits_rows, is_over, awaiting, doing, behind, with_column, with_columns, stage_if, behind_columns, behind_rows, column_names}
 use Rattle.dumper_cli.specs.Words.{Asked}
@@ -31,13 +31,19 @@ Rose-later a b c le rose = omega arith
 
 module _ {L : Type 0} (of : Ghosts L) where
   pub Keeps-same : (a : SessionView L) → Keeps of a a
-  Keeps-same a = record { tells = (λ t. t, λ t. t); later = omega arith }
+  Keeps-same a = record { tells = (λ t. t, λ t. t); later = omega arith; honest = (λ h. h, λ h. h); origin = λ first same. same }
 
   pub Keeps-then : (a b c : SessionView L) → Keeps of a b → Keeps of b c → Keeps of a c
   Keeps-then a b c one two = record {
     tells = (λ t. two.tells.0 (one.tells.0 t), λ t. one.tells.1 (two.tells.1 t));
     later = let first = one.later in let second = two.later in omega arith;
+    honest = (λ h. two.honest.0 (one.honest.0 h), λ h. one.honest.1 (two.honest.1 h));
+    origin = λ first same. two.origin first (one.origin first same);
   }
+
+  -- what a call of the session says
+  pub Keeps-by : ((one next last : L) → of.same_origin one next → of.same_origin next last → of.same_origin one last) → (a b : SessionView L) → (of.tells a.link ↔ of.tells b.link) → of.faults a.link ≤ of.faults b.link → (of.honest a.link ↔ of.honest b.link) → of.same_origin a.link b.link → Keeps of a b
+  Keeps-by joins a b tells later honest origin = record { tells = tells; later = later; honest = honest; origin = λ first same. joins first a.link b.link same origin }
 
 module _ {L : Type 0} (of : Ghosts L) (asked : Asked) where
   -- the run goes on at the next stage
@@ -82,6 +88,15 @@ module _ {L : Type 0} (of : Ghosts L) (old new : SessionView L) where
   names_err (Err fault) tells counted runs = λ asked start. halted_by of asked sends_names start old new.link fault tells counted.later (λ e. counted.failed (ap (λ (f : SessionFault). Err f) e)) (λ t comes. run_ends asked start.wire NamesBinary sends_names awaits_names asks_columns refl refl (λ message. refl) (wire_of of old) (wire_of of new) comes fault (runs t))
 
 -- ---- the queries
+
+-- rows of a SELECT are pending behind it
+pub HasRows-asked : {L : Type 0} (new : SessionView L) (columns : ℕ) → new.has_failed ≡ false → 0 < columns → new.pending ≡ record { reading = rows_of columns; form = Select } → HasRows new
+HasRows-asked new columns alive some pending = record {
+  alive = alive;
+  some = subst (λ (p : Pending). 0 < p.reading.columns) (sym pending) some;
+  rows = ap (λ (p : Pending). p.reading.awaited) pending;
+  form = ap (λ (p : Pending). p.form) pending;
+}
 
 column_turns : (reading : Reading) (message : List ℕ) → further_of reading message ≡ definition → behind (awaits_columns reading []) message ≡ Some (awaits_columns (after reading definition) [])
 column_turns reading message is = ap (λ (f : Further). behind_columns reading [] f) is

@@ -1,5 +1,5 @@
 -- What was said by the end of the rows.
-use Rattle.std.proofs.Common.{◌≡◌, ◌⊎◌, ℕ, List, [], ◌∷◌, ◌++◌, Option, Some, None, Result, Ok, Err, refl, sym, ◌∙◌, ap, subst, append_assoc, inl, inr, Bool, true, false}
+use Rattle.std.proofs.Common.{◌≡◌, ℕ, List, [], ◌∷◌, ◌++◌, Option, Some, None, Result, Ok, Err, refl, sym, ◌∙◌, ap, subst, append_assoc, inl, inr, Bool, true, false}
 use Rattle.my_login.specs.Greeting.{greeting_of}
 use Rattle.my_login.specs.Response.{response}
 use Rattle.my_login.specs.Switch.{switch_of}
@@ -7,7 +7,6 @@ use Rattle.my_login.specs.declared.fault.LoginFault.{LoginFault}
 use Rattle.my_login.specs.declared.greeting.Greeting.{Greeting}
 use Rattle.my_login.specs.declared.switch.Switch.{Switch}
 use Rattle.my_packets.specs.Packet.{packets}
-use Rattle.my_session.specs.Awaited.{Awaited}
 use Rattle.my_session.specs.Login.{password_answer, switch_answer}
 use Rattle.my_session.specs.Statements.{command_payload, query_payload}
 use Rattle.my_session.specs.Wire.{Wire}
@@ -21,7 +20,7 @@ use Rattle.sql_statements.specs.declared.command.Command.TheVariants.{SetUp, Nam
 use Rattle.sql_statements.specs.declared.query.Query.TheVariants.{Columns as ColumnsQuery, Rows}
 use Rattle.dumper_cli.specs.Columns.{column_of, is_row_of}
 use Rattle.dumper_cli.specs.Course.{Comes, at_start, commanded, answered, heard, AreOfLogin, AreAll, AllIsSaid}
-use Rattle.dumper_cli.specs.Stage.{Stage, Doing, awaits_greeting, sends_response, awaits_decision, sends_switch_answer, awaits_acceptance, sends_set_up, awaits_set_up, sends_names, awaits_names, asks_columns, awaits_column_count, awaits_columns, asks_rows, awaits_row_count, awaits_rows, is_over, commanding, answering, awaiting, nothing, doing, behind, behind_greeting, behind_switch, behind_decision, behind_ok, behind_count, with_column, with_columns, behind_columns, stage_if, behind_rows, column_names}
+use Rattle.dumper_cli.specs.Stage.{Stage, awaits_greeting, sends_response, awaits_decision, sends_switch_answer, awaits_acceptance, sends_set_up, awaits_set_up, sends_names, awaits_names, asks_columns, awaits_column_count, awaits_columns, asks_rows, awaits_row_count, awaits_rows, is_over, commanding, answering, doing, behind, behind_greeting, behind_switch, behind_decision, behind_ok, behind_count, with_column, with_columns, behind_columns, stage_if, behind_rows, column_names}
 use Rattle.dumper_cli.specs.Words.{Asked}
 use Rattle.dumper_cli.specs.declared.column.Column.{Column}
 

@@ -1,5 +1,5 @@
 -- The exit status of a dump, by its answer.
-use Rattle.std.proofs.Common.{◌≡◌, ◌≤◌, ◌⊎◌, ℕ, List, [], ◌∷◌, length, Result, Ok, Err, OnOk, OnErr, IfErr, inl, inr, refl, sym, ap, subst, ◌∙◌, arith}
+use Rattle.std.proofs.Common.{◌≡◌, ℕ, List, [], ◌∷◌, length, Result, Ok, Err, OnOk, OnErr, IfErr, inl, inr, refl, ap, arith}
 use Rattle.std.proofs.lemmas.List.Sorted.{length_permutation}
 use Rattle.link_traits.specs.Contents.{File as FolderFile, names}
 use Rattle.link_traits.specs.Site.{SiteTold}
@@ -9,7 +9,7 @@ use Rattle.dumper_cli.proofs.Outcomes.{one_outcome}
 use Rattle.dumper_cli.specs.Course.{HasOneOutcome, EndsWith}
 use Rattle.dumper_cli.specs.Outcomes.{IsExact, IsStatusOr}
 use Rattle.dumper_cli.specs.Outside.{next_wire, Dumped, EndedBy, ComesLater, IsLeast, SaidAtMost, SaidBefore, nothing}
-use Rattle.dumper_cli.specs.Status.{session_status, status_of, IsEnding, IsCaused, RefusesFull}
+use Rattle.dumper_cli.specs.Status.{session_status, status_of, IsCaused, RefusesFull}
 use Rattle.dumper_cli.specs.Words.{Asked}
 use Rattle.dumper_cli.specs.declared.fault.DumpFault.{DumpFault}
 use Rattle.dumper_cli.specs.declared.fault.DumpFault.TheVariants.{FolderNotEmpty, File, Session}

@@ -1,32 +1,22 @@
 -- Columns of a table, as information_schema.COLUMNS tells them (MySQL 8.0 Reference Manual, 28.3.8).
-use Rattle.std.specs.Prelude.{ℕ, ◌==◌, ◌&&◌, ◌||◌, not, bytes_eq, nat_eq, if◌then◌else◌, Bool, true, false, List, [], ◌∷◌, length, Option, Some, None, option_map, codes}
-use Rattle.std.specs.List.{starts_with, list_any}
+use Rattle.std.specs.Prelude.{ℕ, ◌==◌, ◌&&◌, not, bytes_eq, if◌then◌else◌, Bool, true, false, List, [], ◌∷◌, length, Option, Some, None, option_map, codes}
+use Rattle.std.specs.List.{list_any}
 use Rattle.std.specs.Str.Lossy.{utf8_valid_len}
+use Rattle.honest_server.specs.Answer.{says_generated}
+use Rattle.honest_server.specs.Columns.{is_number_type}
 use Rattle.sql_literals.specs.Literal.{Cell, has_literal}
 use Rattle.sql_literals.specs.declared.literal.CellKind.{CellKind}
 use Rattle.sql_literals.specs.declared.literal.CellKind.TheVariants.{Number, Text}
 use Rattle.dumper_cli.specs.declared.column.Column.{Column}
 
--- types whose cells are written as numbers, and types whose cells are written as text
-abbrev pub number_types : List (List ℕ)
-number_types = codes "tinyint" ∷ codes "smallint" ∷ codes "mediumint" ∷ codes "int" ∷ codes "bigint" ∷ codes "decimal" ∷ codes "year" ∷ []
-
+-- types whose cells are written as text
 abbrev pub text_types : List (List ℕ)
 text_types = codes "char" ∷ codes "varchar" ∷ codes "tinytext" ∷ codes "text" ∷ codes "mediumtext" ∷ codes "longtext" ∷ codes "enum" ∷ codes "set" ∷ codes "date" ∷ codes "time" ∷ codes "datetime" ∷ codes "timestamp" ∷ []
 
 abbrev pub kind_of : List ℕ → Option CellKind
 kind_of data_type =
-    if list_any (bytes_eq data_type) number_types then Some Number else
+    if is_number_type data_type then Some Number else
     (if list_any (bytes_eq data_type) text_types then Some Text else None)
-
--- the bytes hold these bytes at some place
-abbrev pub holds : List ℕ → List ℕ → Bool
-holds needle [] = starts_with nat_eq [] needle
-holds needle (byte ∷ bytes) = starts_with nat_eq (byte ∷ bytes) needle || holds needle bytes
-
--- what EXTRA says of a generated column
-abbrev pub is_generated : List ℕ → Bool
-is_generated extra = holds (codes "VIRTUAL GENERATED") extra || holds (codes "STORED GENERATED") extra
 
 abbrev pub is_utf8 : List ℕ → Bool
 is_utf8 bytes = utf8_valid_len bytes == length bytes
@@ -34,7 +24,7 @@ is_utf8 bytes = utf8_valid_len bytes == length bytes
 -- the column of these cells of COLUMN_NAME, DATA_TYPE, COLUMN_TYPE and EXTRA, where it can be dumped
 abbrev pub described : Cell → Cell → Cell → Cell → Option Column
 described (Some name) (Some data_type) (Some column_type) (Some extra) =
-    if is_utf8 name && not (is_generated extra) then option_map (λ kind. record { name = name; kind = kind }) (kind_of data_type) else None
+    if is_utf8 name && not (says_generated extra) then option_map (λ kind. record { name = name; kind = kind }) (kind_of data_type) else None
 described name data_type column_type extra = None
 
 -- the column of a row that begins with these four

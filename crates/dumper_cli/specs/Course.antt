@@ -1,5 +1,5 @@
 -- The course of a dump over a link, and the ways in which it ends.
-use Rattle.std.specs.Prelude.{ℕ, ◌≡◌, ◌<◌, ◌≤◌, ◌⊎◌, List, [], ◌∷◌, ◌++◌, length, Option, Some, None}
+use Rattle.std.specs.Prelude.{ℕ, ◌≡◌, ◌<◌, ◌≤◌, ◌⊎◌, List, [], ◌∷◌, ◌++◌, length, Some, None}
 use Rattle.my_login.specs.Response.{response}
 use Rattle.my_packets.specs.Front.{IsTooLong}
 use Rattle.my_packets.specs.Packet.{packets}

@@ -34,10 +34,13 @@ module _ {L : Type 0} (of : LinkGhosts L) where
   pub record Keeps (old new : SessionView L) : Type 0 where
     pub tells : of.tells old.link ↔ of.tells new.link
     pub later : of.faults old.link ≤ of.faults new.link
+    pub honest : of.honest old.link ↔ of.honest new.link
+    pub origin : (first : L) → of.same_origin first old.link → of.same_origin first new.link
 
   -- a row came, and with its column there are more
   pub record ColumnAdded (columns : List Column) (old : SessionView L) (more : List Column) (new : SessionView L) : Type 0 where
     pub has_rows : HasRows new
+    pub pending : new.pending ≡ old.pending
     pub onward : IsOnward old.place new.place
     pub reached : (asked : Asked) (start : Start) → Reached of asked (awaits_columns old.pending.reading columns) start old → Reached of asked (awaits_columns new.pending.reading more) start new
 
@@ -61,6 +64,7 @@ module _ {L S : Type 0} (link : LinkGhosts L) (shelf : ShelfGhosts S) where
   -- a row came, and was added to the file
   pub record RowAdded (columns : List Column) (old : SessionView L) (file : DataFile S shelf) (new : SessionView L) (new_file : DataFile S shelf) : Type 0 where
     pub has_rows : HasRows new
+    pub pending : new.pending ≡ old.pending
     pub onward : IsOnward old.place new.place
     pub cells : List Cell
     pub reached : (asked : Asked) (rows : List (List Cell)) (start : Start) → Reached link asked (awaits_rows old.pending.reading columns rows) start old → Reached link asked (awaits_rows new.pending.reading columns (rows ++ cells ∷ [])) start new

@@ -1,5 +1,5 @@
 -- How a dump goes, stage by stage.
-use Rattle.std.specs.Prelude.{ℕ, List, [], ◌∷◌, ◌++◌, map, if◌then◌else◌, Bool, true, false, Option, Some, None, Result, Ok, Err}
+use Rattle.std.specs.Prelude.{ℕ, List, [], ◌∷◌, ◌++◌, map, Bool, true, false, Option, Some, None, Result, Ok, Err}
 use Rattle.my_login.specs.Greeting.{greeting_of}
 use Rattle.my_login.specs.Response.{response}
 use Rattle.my_login.specs.Switch.{switch_of}

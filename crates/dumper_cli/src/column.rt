@@ -2,7 +2,8 @@
 ghost use Rattle.std.specs.Prelude.{◌≡◌, true, false, IfOk, MatchOption, bytes_eq, option_copied};
 ghost use Rattle.std.specs.List.{list_any};
 ghost use Rattle.result_rows.specs.RowCells.{row_cells};
-ghost use Rattle.dumper_cli.specs.Columns.{kind_of, holds, is_generated, is_utf8, described, column_of};
+ghost use Rattle.dumper_cli.specs.Columns.{kind_of, is_utf8, described, column_of};
+ghost use Rattle.honest_server.specs.Answer.{holds, says_generated};
 
 use result_rows::Row;
 use sql_literals::{CellKind, Name, OutOfMemory, Plain, PlainList};
@@ -87,8 +88,8 @@ fn holds(needle: &[u8], bytes: &[u8]) -> bool
     needle.is_empty()
 }
 
-fn is_generated(extra: &[u8]) -> bool
-    ensures { result ≡ is_generated extra.now }
+fn says_generated(extra: &[u8]) -> bool
+    ensures { result ≡ says_generated extra.now }
 {
     holds(b"VIRTUAL GENERATED", extra) || holds(b"STORED GENERATED", extra)
 }
@@ -121,7 +122,7 @@ fn described(
     let Some(name) = text_of(name) else {
         return Ok(None);
     };
-    if is_generated(extra) {
+    if says_generated(extra) {
         return Ok(None);
     }
     let Some(kind) = kind_of(data_type) else {
@@ -249,7 +250,7 @@ mod tests {
             ("STORED GENERATED", true),
             ("STORED GENERATED INVISIBLE", true),
         ] {
-            assert_eq!(rt; is_generated(extra.as_bytes()), want, "of {extra}");
+            assert_eq!(rt; says_generated(extra.as_bytes()), want, "of {extra}");
         }
     }
 

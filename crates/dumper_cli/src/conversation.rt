@@ -1,5 +1,6 @@
 // A dump over one link.
 ghost use Rattle.std.specs.Prelude.{◌≡◌, ◌<◌, ◌≤◌, ◌↔◌, [], length, false, IfErr, IfOk, OnOk, OnErr};
+ghost use Rattle.my_session.specs.InStep.{GreetingWaits};
 ghost use Rattle.dumper_cli.specs.AskedBy.{asked_by};
 ghost use Rattle.dumper_cli.specs.Next.{IsReady, HasRows, Keeps, Broke};
 ghost use Rattle.dumper_cli.specs.OverLink.{Tabled, Conversed, LinkDumped, LinkStopped};
@@ -133,9 +134,12 @@ pub fn dump_over_link<L: Link, S: Shelf>(
     shelf: S,
     words: &Words<'_>,
 ) -> Ended<L, S>
+    requires new_link { L.honest link → (L.served link).failed ≡ false → GreetingWaits L.Link link }
     requires none_begun { S.is_begun shelf ≡ false }
     requires none_made { S.tells shelf → (S.told shelf).made ≡ [] }
 
+    ensures honest { L.honest link ↔ L.honest result.link }
+    ensures origin { L.same_origin link result.link }
     ensures link_tells { L.tells link ↔ L.tells result.link }
     ensures link_later { L.faults link ≤ L.faults result.link }
     ensures tells { S.tells shelf ↔ S.tells result.shelf }

@@ -1,6 +1,6 @@
 -- the bytes that are left hold the needle exactly where all do
 use Rattle.std.proofs.Common.{◌≡◌, length}
-use Rattle.dumper_cli.specs.Columns.{holds}
+use Rattle.honest_server.specs.Answer.{holds}
 use Rattle.dumper_cli.proofs.column.holds.Given as goal
 
 abbrev pub invariant-places : goal.invariant-places

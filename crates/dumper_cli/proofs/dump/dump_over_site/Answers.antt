@@ -1,7 +1,8 @@
-use Rattle.std.proofs.Common.{◌∙◌, ap}
+use Rattle.std.proofs.Common.{true, ◌∙◌, ap}
 use Rattle.std.proofs.lemmas.Result.{on_ok_weaker, IfErr-weaker}
 use Rattle.link_traits.specs.Site.{returned}
 use Rattle.dumper_cli.specs.AskedBy.{asked_by}
+use Rattle.my_session.proofs.Stepping.{new_link_greets}
 use Rattle.dumper_cli.proofs.OverSite.{Rose-back, EndedBy-stopped, SaidAtMost-stopped, SiteTabled-dumped}
 use Rattle.dumper_cli.proofs.dump.dump_over_site.Goals as goal
 
@@ -30,3 +31,9 @@ returns-clause-said g c = IfErr-weaker c.dump_over_link-link.result.result _ _ (
     (λ t. c.give_back.ensures.told (c.in-Ok.ensures.tells.0 t) ∙ ap (λ s. returned s (g.T.Link.Link.told c.dump_over_link-link.result.link).sent) (c.in-Ok.ensures.told t))
     fault stopped)
     c.dump_over_link-link.ensures.err
+
+pub dump_over_link-link-requires-clause-new_link : goal.dump_over_link-link-requires-clause-new_link
+dump_over_link-link-requires-clause-new_link g c = λ h alive. new_link_greets g.T.Link.Link c.in-Ok.link (g.T.Site.served c.args.site.now) true (c.in-Ok.ensures.link h)
+
+pub give_back-requires-clause-own : goal.give_back-requires-clause-own
+give_back-requires-clause-own g c = g.met.T.Site.stays_own c.connect_sole.new.self c.in-Ok.link c.dump_over_link-link.result.link c.dump_over_link-link.ensures.origin c.in-Ok.ensures.own
