@@ -1,5 +1,5 @@
 -- Links that show what a plain statement may bring.
-use Rattle.std.proofs.Common.{◌≡◌, ℕ, Bool, true, false, List, [], ◌∷◌, ◌++◌, Some, None, refl, ap, sym}
+use Rattle.std.proofs.Common.{◌≡◌, Bool, true, false, List, [], ◌∷◌, Some, None, refl, ap}
 use Rattle.std.proofs.lemmas.Bool.{false≢true}
 use Rattle.std.specs.Prelude.{decimal}
 use Rattle.server_model.specs.declared.data.Position.{Position}
@@ -7,7 +7,7 @@ use Rattle.server_model.specs.declared.data.Transaction.{Transaction}
 use Rattle.sql_literals.specs.declared.cell.Cell.{Cell}
 use Rattle.sql_literals.specs.declared.cell.Cell.TheVariants.{Null, Value}
 use Rattle.honest_server.specs.Laws.{APlainSnapshotMayShowMore, ThePositionMayMoveBehindTheLock}
-use Rattle.honest_server.specs.State.{State, Terms, in_session, no_settings, with_others}
+use Rattle.honest_server.specs.State.{State, in_session, no_settings, with_others}
 
 -- a link that has seen nothing and holds the read lock or doesn't
 abbrev link : Bool → State

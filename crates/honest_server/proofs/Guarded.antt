@@ -1,5 +1,5 @@
 -- What a link sees while it holds the backup lock.
-use Rattle.std.proofs.Common.{◌≡◌, ℕ, Bool, true, false, List, [], ◌∷◌, ◌++◌, Option, Some, None, refl, ap, sym, ◌∙◌, append_assoc, subst}
+use Rattle.std.proofs.Common.{◌≡◌, ℕ, true, List, [], ◌∷◌, ◌++◌, Option, Some, None, refl, ap, sym, ◌∙◌, append_assoc, subst}
 use Rattle.std.specs.Prelude.{option_and_then}
 use Rattle.server_model.specs.Fold.{change_db, changes_db, db, more_db}
 use Rattle.server_model.specs.declared.data.Change.{Change}
@@ -7,14 +7,13 @@ use Rattle.server_model.specs.declared.data.Database.{Database}
 use Rattle.server_model.specs.declared.data.Transaction.{Transaction}
 use Rattle.sql_statements.specs.declared.command.Command.TheVariants.{SetUp, NamesUtf8mb4, NamesBinary, ForeignKeyChecksOff, TimeZoneUtc, BinaryLogOff, SqlMode, CharacterSetClient, CollationConnection, RepeatableRead, LockInstance, FlushTables, UnlockTables, UnlockInstance, StartSnapshot, Start, Commit, Rollback, Use, Create, CreateProgress, CreateProgressFiles, CreateProgressDump, Insert, InsertProgressFile, InsertProgressDump}
 use Rattle.sql_statements.specs.declared.command.Command.{Command}
-use Rattle.sql_statements.specs.declared.query.Query.{Query}
 use Rattle.sql_statements.specs.declared.statement.Statement.TheVariants.{Command as SomeCommand, Query as SomeQuery}
 use Rattle.honest_server.specs.Catalogue.{AreOfRows, KeepCatalogue, KeepsCatalogue, no_more, a_row, a_rise, one_more}
 use Rattle.honest_server.specs.Effect.{Commits, Creates, Effect, EndsOpen, GoesInto}
 use Rattle.honest_server.specs.Laws.{AGuardedLinkSeesOneCatalogue}
 use Rattle.honest_server.specs.Moves.{SeesOthers}
-use Rattle.honest_server.specs.Serve.{Reply, done, rows, refused, Handles}
-use Rattle.honest_server.specs.State.{State, with_others, with_own}
+use Rattle.honest_server.specs.Serve.{done, rows, refused}
+use Rattle.honest_server.specs.State.{State, with_others}
 
 -- changes one behind the other
 changes_join : (database : Database) (front behind : List Change) → changes_db database (front ++ behind) ≡ option_and_then (λ (middle : Database). changes_db middle behind) (changes_db database front)

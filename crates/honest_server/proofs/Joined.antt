@@ -1,8 +1,8 @@
 -- Fronts of lists that stand first in an interleaving of the lists.
 use Rattle.std.proofs.Common.{◌≡◌, List, [], ◌∷◌, ◌++◌, refl, ap, sym, ◌∙◌, append_assoc, arith, subst, suc}
-use Rattle.std.specs.Prelude.{All, flat_map, length}
+use Rattle.std.specs.Prelude.{All, flat_map}
 use Rattle.server_model.proofs.Orders.{in_turn}
-use Rattle.server_model.specs.History.{Interleaves, IsPrefix, TakesHead, here, none_left, takes, there}
+use Rattle.server_model.specs.History.{Interleaves, TakesHead, here, none_left, takes, there}
 use Rattle.server_model.specs.declared.data.Transaction.{Transaction}
 use Rattle.honest_server.specs.Laws.{AGrantCanStandFirst, AreJoined, no_more, one_more}
 

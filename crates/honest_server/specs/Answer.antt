@@ -1,5 +1,5 @@
 -- What a query is answered over a database (MySQL 8.0 Reference Manual, 28.3 "INFORMATION_SCHEMA General Tables", 15.7.7 "SHOW Statements", 15.2.13 "SELECT Statement").
-use Rattle.std.specs.Prelude.{ℕ, ◌≡◌, ◌⊎◌, ◌==◌, ◌&&◌, ◌||◌, not, cond, Bool, true, false, List, [], ◌∷◌, ◌++◌, map, filter, filter_map, flat_map, find, position, take, drop, length, slice_get, Option, Some, None, option_and_then, option_map, bytes_eq, nat_eq, codes, decimal, ℤ, int_lt, int_le, IsSome}
+use Rattle.std.specs.Prelude.{ℕ, ◌≡◌, ◌⊎◌, ◌==◌, ◌&&◌, ◌||◌, not, Bool, true, false, List, [], ◌∷◌, map, filter, filter_map, flat_map, find, position, take, drop, slice_get, Option, Some, None, option_map, bytes_eq, nat_eq, codes, decimal, ℤ, int_lt, int_le}
 use Rattle.std.specs.List.{starts_with, list_any, list_all}
 use Rattle.object_texts.specs.Shape.{shape, is_integer, is_key}
 use Rattle.object_texts.specs.declared.head.Kind.{Kind}
@@ -8,7 +8,6 @@ use Rattle.object_texts.specs.declared.shape.Column.{Column}
 use Rattle.server_model.specs.Bag.{IsSameBag}
 use Rattle.server_model.specs.Fold.{is_object, table_of, rows_of}
 use Rattle.server_model.specs.declared.data.Database.{Database}
-use Rattle.server_model.specs.declared.data.Need.{Need}
 use Rattle.server_model.specs.declared.data.Object.{Object}
 use Rattle.server_model.specs.declared.data.Position.{Position}
 use Rattle.server_model.specs.declared.data.Settings.{Settings}

@@ -1,5 +1,5 @@
 -- The columns of tables, and the numbers in their cells (MySQL 8.0 Reference Manual, 13.1 "Numeric Data Types", 5.6.9 "Using AUTO_INCREMENT").
-use Rattle.std.specs.Prelude.{ℕ, ◌≡◌, ◌<◌, ◌+◌, ◌*◌, ◌-◌, ◌^◌, ◌==◌, ◌&&◌, ◌||◌, ◌⊎◌, not, if◌then◌else◌, Bool, true, false, List, [], ◌∷◌, length, take, take_while, fold, map, filter, slice_get, Option, Some, None, option_and_then, bytes_eq, codes, ℤ, pos, neg_ℤ, int_le, int_lt}
+use Rattle.std.specs.Prelude.{ℕ, ◌+◌, ◌*◌, ◌-◌, ◌^◌, ◌==◌, ◌&&◌, ◌||◌, not, if◌then◌else◌, Bool, true, false, List, [], ◌∷◌, take, take_while, fold, map, filter, slice_get, Option, Some, None, option_and_then, bytes_eq, codes, ℤ, pos, neg_ℤ, int_le, int_lt}
 use Rattle.std.specs.List.{list_any}
 use Rattle.object_texts.specs.Shape.{is_integer}
 use Rattle.object_texts.specs.declared.shape.Column.{Column}

@@ -1,5 +1,5 @@
 -- What a command does to a link's state and to the history (MySQL 8.0 Reference Manual, 15.3 "Transactional and Locking Statements", 15.7.8.3 "FLUSH Statement", 15.1 "Data Definition Statements").
-use Rattle.std.specs.Prelude.{ℕ, ◌≡◌, ◌<◌, ◌+◌, ◌^◌, max, true, false, List, [], ◌∷◌, ◌++◌, map, filter, fold, Option, Some, None, codes}
+use Rattle.std.specs.Prelude.{ℕ, ◌≡◌, ◌<◌, ◌+◌, ◌^◌, max, true, false, List, [], ◌∷◌, ◌++◌, filter, fold, Option, Some, None, codes}
 use Rattle.object_texts.specs.Head.{Making, making}
 use Rattle.object_texts.specs.Shape.{undoubled}
 use Rattle.object_texts.specs.declared.head.Kind.{Kind}

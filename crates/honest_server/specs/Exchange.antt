@@ -1,5 +1,5 @@
 -- What is said on a link: the login, statements and their replies, and the end (MySQL source documentation, "Connection Phase", COM_QUERY, COM_QUIT).
-use Rattle.std.specs.Prelude.{ℕ, ◌≡◌, ◌⊎◌, true, false, Bool, List, [], ◌∷◌, ◌++◌, length, Option, Some, None, Ok, Err}
+use Rattle.std.specs.Prelude.{ℕ, ◌≡◌, ◌⊎◌, true, false, Bool, List, [], ◌∷◌, ◌++◌, length, Some, None, Ok, Err}
 use Rattle.my_login.specs.Greeting.{greeting_of}
 use Rattle.my_login.specs.Switch.{switch_of}
 use Rattle.my_login.specs.Texts.{native_password}

@@ -1,11 +1,11 @@
 -- What an INSERT spells, and what it does (MySQL 8.0 Reference Manual, 15.2.7 "INSERT Statement", 27.3 "Using Triggers", 5.6.9 "Using AUTO_INCREMENT").
-use Rattle.std.specs.Prelude.{ℕ, ◌≡◌, ◌⊎◌, ◌&&◌, not, Bool, true, false, List, [], ◌∷◌, ◌++◌, map, All, slice_get, Option, Some, None, bytes_eq, codes, ℤ}
+use Rattle.std.specs.Prelude.{ℕ, ◌≡◌, ◌&&◌, not, Bool, true, false, List, [], ◌∷◌, ◌++◌, map, All, slice_get, Option, Some, None, bytes_eq, codes, ℤ}
 use Rattle.std.specs.List.{list_any, list_all}
 use Rattle.object_texts.specs.Shape.{TableCounter, counter}
 use Rattle.object_texts.specs.declared.head.Kind.TheVariants.{Table, Trigger}
 use Rattle.object_texts.specs.declared.shape.Column.{Column}
 use Rattle.server_model.specs.Equal.{kind_eq}
-use Rattle.server_model.specs.Fold.{table_of, rows_of, changes_db}
+use Rattle.server_model.specs.Fold.{table_of, rows_of}
 use Rattle.server_model.specs.History.{Interleaves}
 use Rattle.server_model.specs.declared.data.Change.{Change}
 use Rattle.server_model.specs.declared.data.Change.TheVariants.{Put}

@@ -1,5 +1,5 @@
 -- What follows from the definitions of an honest server, and examples of what they allow and refuse. The functions of src/laws.rt are the proofs.
-use Rattle.std.specs.Prelude.{ℕ, ◌≡◌, ◌≢◌, Bool, true, false, List, [], ◌∷◌, ◌++◌, Option, Some, None, codes, pos, neg_ℤ}
+use Rattle.std.specs.Prelude.{ℕ, ◌≡◌, ◌≢◌, Bool, true, false, List, [], ◌∷◌, ◌++◌, Some, None, codes, pos, neg_ℤ}
 use Rattle.object_texts.specs.declared.shape.Column.{Column}
 use Rattle.result_rows.specs.declared.refusal.Refusal.{Refusal}
 use Rattle.server_model.specs.Fold.{mark}

@@ -1,5 +1,5 @@
 -- What an honest link tells, and what its calls do.
-use Rattle.std.specs.Prelude.{◌≡◌, ◌<◌, ◌≤◌, ◌⊎◌, ℕ, Bool, true, false, List, [], ◌∷◌, ◌++◌, length, take, All, Result, OnOk, OnErr, IfOk, IfSome}
+use Rattle.std.specs.Prelude.{◌≡◌, ◌<◌, ◌≤◌, ◌⊎◌, ℕ, Bool, true, false, List, ◌++◌, length, take, All, Result, OnOk, OnErr, IfOk, IfSome}
 use Rattle.my_packets.specs.Packet.{packets}
 use Rattle.object_texts.specs.Head.{HasHead}
 use Rattle.server_model.specs.declared.data.Transaction.{Transaction}

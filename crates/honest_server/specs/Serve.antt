@@ -1,5 +1,5 @@
 -- Which statements an honest server serves, and how (MySQL 8.0 Reference Manual, 17.7.2.3 "Consistent Nonlocking Reads", 15.3.1 "START TRANSACTION, COMMIT, and ROLLBACK Statements").
-use Rattle.std.specs.Prelude.{◌≡◌, ◌⊎◌, true, false, List, [], ◌∷◌, Option, Some, None, ℕ}
+use Rattle.std.specs.Prelude.{◌≡◌, ◌⊎◌, true, List, [], Option, Some, None}
 use Rattle.result_rows.specs.declared.refusal.Refusal.{Refusal}
 use Rattle.server_model.specs.Fold.{db, mark}
 use Rattle.server_model.specs.History.{IsPrefix}
@@ -8,7 +8,6 @@ use Rattle.server_model.specs.declared.data.Database.{Database}
 use Rattle.server_model.specs.declared.data.Transaction.{Transaction}
 use Rattle.sql_literals.specs.declared.cell.Cell.{Cell}
 use Rattle.sql_statements.specs.Form.{form_of, query_form}
-use Rattle.sql_statements.specs.declared.command.Command.{Command}
 use Rattle.sql_statements.specs.declared.form.Form.{Form}
 use Rattle.sql_statements.specs.declared.form.Form.TheVariants.{Select}
 use Rattle.sql_statements.specs.declared.query.Query.{Query}

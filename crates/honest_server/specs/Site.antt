@@ -1,12 +1,12 @@
 -- What an honest site tells, and what its calls do (a premise of our own, but for what closing a connection does: MySQL 8.0 Reference Manual, 15.3.3 "Statements That Cause an Implicit Commit", 15.3.6 "LOCK TABLES and UNLOCK TABLES Statements").
-use Rattle.std.specs.Prelude.{◌≡◌, ℕ, zero, suc, ◌++◌, ◌∷◌, Bool, true, false, List, [], All, Option, None}
+use Rattle.std.specs.Prelude.{◌≡◌, ℕ, zero, suc, ◌++◌, ◌∷◌, Bool, true, false, List, [], All, None}
 use Rattle.my_packets.specs.Packet.{packets}
 use Rattle.server_model.specs.History.{IsPrefix, Interleaves}
 use Rattle.server_model.specs.declared.data.Transaction.{Transaction}
 use Rattle.honest_server.specs.Catalogue.{KeepsCatalogue}
 use Rattle.honest_server.specs.Exchange.{IsGreeting}
 use Rattle.honest_server.specs.Link.{ServedLink}
-use Rattle.honest_server.specs.State.{State, Given, Terms, Phase, greeted, no_settings}
+use Rattle.honest_server.specs.State.{State, Given, Terms, greeted, no_settings}
 use Rattle.honest_server.specs.WellFormed.{IsSound}
 
 -- the history, the transactions of each link that came back while others were out, the ERR answers and lock grants of those that came

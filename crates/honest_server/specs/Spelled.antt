@@ -1,6 +1,6 @@
 -- The messages that spell a reply (MySQL source documentation, COM_QUERY Response, ProtocolText::Resultset). How long they may be is a premise of our own.
-use Rattle.std.specs.Prelude.{ℕ, ◌≡◌, ◌≤◌, ◌+◌, ◌*◌, ◌⊎◌, Bool, true, List, [], ◌∷◌, ◌++◌, length, map, filter, replicate, sum_by, Some, All}
-use Rattle.result_rows.specs.Reading.{Further, definition, row, refused as refused_turn, counted}
+use Rattle.std.specs.Prelude.{ℕ, ◌≡◌, ◌≤◌, ◌+◌, ◌*◌, ◌⊎◌, Bool, true, List, [], ◌∷◌, ◌++◌, length, map, replicate, sum_by, Some, All}
+use Rattle.result_rows.specs.Reading.{definition, row, refused as refused_turn, counted}
 use Rattle.result_rows.specs.Reply.{reply_of}
 use Rattle.result_rows.specs.ResultSet.{IsResultSet, taken}
 use Rattle.result_rows.specs.Row.{Cell as SentCell}
@@ -11,7 +11,7 @@ use Rattle.sql_literals.specs.declared.cell.Cell.{Cell}
 use Rattle.sql_literals.specs.declared.cell.Cell.TheVariants.{Null, Value}
 use Rattle.sql_statements.specs.Text.{query_text}
 use Rattle.sql_statements.specs.declared.query.Query.{Query}
-use Rattle.sql_statements.specs.declared.query.Query.TheVariants.{MasterStatus, Schemas, Tables, Columns as ColumnsQuery, PrimaryKey, Triggers, Routines, ViewNeeds, CreateDatabase, CreateTable, CreateView, CreateProcedure, CreateFunction, CreateTrigger}
+use Rattle.sql_statements.specs.declared.query.Query.TheVariants.{MasterStatus, Columns as ColumnsQuery, CreateDatabase, CreateTable, CreateView, CreateProcedure, CreateFunction, CreateTrigger}
 use Rattle.sql_statements.specs.declared.statement.Statement.{Statement}
 use Rattle.sql_statements.specs.declared.statement.Statement.TheVariants.{Command as SomeCommand, Query as SomeQuery}
 use Rattle.honest_server.specs.Answer.{without_line_feeds}

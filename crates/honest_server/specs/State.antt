@@ -1,5 +1,5 @@
 -- The state of a link, as an honest server keeps it (MySQL 8.0 Reference Manual, 15.3 "Transactional and Locking Statements", 7.1.9 "Using System Variables").
-use Rattle.std.specs.Prelude.{ℕ, ◌≡◌, Bool, false, List, [], ◌++◌, ◌∷◌, Option, Some, None, option_and_then}
+use Rattle.std.specs.Prelude.{ℕ, Bool, false, List, [], ◌++◌, ◌∷◌, Option, Some, None, option_and_then}
 use Rattle.result_rows.specs.declared.refusal.Refusal.{Refusal}
 use Rattle.server_model.specs.Fold.{db, changes_db}
 use Rattle.server_model.specs.declared.data.Change.{Change}

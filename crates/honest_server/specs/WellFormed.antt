@@ -1,5 +1,5 @@
 -- What an honest server's database is like (a premise of our own; MySQL 8.0 Reference Manual, 15.7.7 "SHOW Statements" for the texts, 5.6.9 "Using AUTO_INCREMENT").
-use Rattle.std.specs.Prelude.{ℕ, ◌≡◌, ◌≢◌, ◌<◌, ◌^◌, ◌&&◌, not, nat_le, nat_lt, Bool, true, false, List, [], ◌∷◌, map, All, AllPairs, slice_get, Option, Some, None, IfSome}
+use Rattle.std.specs.Prelude.{ℕ, ◌≡◌, ◌≢◌, ◌<◌, ◌^◌, ◌&&◌, not, nat_le, nat_lt, Bool, true, List, [], ◌∷◌, map, All, AllPairs, slice_get, Option, Some, None, IfSome}
 use Rattle.std.specs.List.{list_all}
 use Rattle.std.specs.Str.{is_utf8}
 use Rattle.object_texts.specs.Head.{Making, Path, making, trigger_table}

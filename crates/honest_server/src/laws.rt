@@ -58,8 +58,9 @@ pub fn a_commit_is_whole()
     ensures { ACommitIsWhole }
 {}
 
-/// Where nobody else writes, what a link had seen at its grant can stand first in the history, and
-/// what the links committed behind it.
+/// Where nobody else writes, a grant of the read lock can stay a prefix of the history: what its link
+/// had seen, which is the history at its start and an interleaving of fronts of what the links committed,
+/// can stand first, and the rests behind it.
 pub fn a_grant_can_stand_first()
     ensures { AGrantCanStandFirst }
 {}

@@ -1,5 +1,5 @@
 -- Files, and what a folder and a shelf hold.
-use Rattle.std.specs.Prelude.{◌≡◌, ℕ, List, map, Contains, IsPermutation, IsSorted}
+use Rattle.std.specs.Prelude.{ℕ, List, map, Contains, IsPermutation, IsSorted}
 use Rattle.std.specs.Cmp.Lexicographic.{slice_cmp}
 use Rattle.std.specs.Ordering.{nat_cmp}
 

@@ -1,5 +1,5 @@
 -- What the calls of a shelf do.
-use Rattle.std.specs.Prelude.{◌≡◌, ℕ, List, [], ◌∷◌, ◌++◌}
+use Rattle.std.specs.Prelude.{ℕ, List, [], ◌∷◌, ◌++◌}
 use Rattle.link_traits.specs.Contents.{File, ShelfTold}
 
 -- a file of this name is begun

@@ -1,5 +1,5 @@
 -- What a folder and a shelf in memory hold.
-use Rattle.std.specs.Prelude.{ℕ, nat_eq, Bool, true, false, List, [], ◌∷◌, ◌++◌, Option, Some, None, if◌then◌else◌}
+use Rattle.std.specs.Prelude.{ℕ, nat_eq, Bool, List, [], ◌∷◌, ◌++◌, Option, Some, None, if◌then◌else◌}
 use Rattle.std.specs.Cmp.Lexicographic.{pointwise}
 use Rattle.link_traits.specs.Contents.{File, ShelfTold}
 use Rattle.link_traits.specs.Script.{Counts}

@@ -1,5 +1,5 @@
 -- What a site tells, and what its calls do to it.
-use Rattle.std.specs.Prelude.{◌≡◌, ℕ, List, [], ◌∷◌, ◌++◌, drop}
+use Rattle.std.specs.Prelude.{ℕ, List, [], ◌∷◌, ◌++◌, drop}
 
 -- where connections go
 pub record Aim : Type 0 where

@@ -1,5 +1,5 @@
 -- What links and sites are said to keep of whose servers nothing is told.
-use Rattle.std.specs.Prelude.{false, [], None}
+use Rattle.std.specs.Prelude.{false, []}
 use Rattle.honest_server.specs.Link.{ServedLink}
 use Rattle.honest_server.specs.Site.{ServedSite, fresh}
 

@@ -14,7 +14,6 @@ use Rattle.result_rows.specs.Reply.{is_ok_packet, refusal_of, reply_of}
 use Rattle.result_rows.specs.declared.refusal.Refusal.{Refusal}
 use Rattle.result_rows.specs.declared.reader.Reply.TheVariants.{Done, Refused as IsRefused, Columns}
 use Rattle.result_rows.specs.declared.short_text.ShortText.{ShortText}
-use Rattle.server_model.specs.declared.data.Transaction.{Transaction}
 
 -- ---- the first byte of an OK is 0, that of an ERR is ff, and that of a request for another plugin fe
 

@@ -12,7 +12,6 @@ use Rattle.result_rows.specs.ResultSet.{taken}
 use Rattle.result_rows.specs.Row.{Cell}
 use Rattle.result_rows.specs.declared.refusal.Refusal.{Refusal}
 use Rattle.result_rows.specs.declared.reader.Reply.{Reply as FirstReply}
-use Rattle.server_model.specs.declared.data.Transaction.{Transaction}
 use Rattle.sql_literals.specs.declared.cell.Cell.{Cell as FoundCell}
 use Rattle.sql_statements.specs.declared.query.Query.{Query}
 use Rattle.sql_statements.specs.declared.statement.Statement.{Statement}

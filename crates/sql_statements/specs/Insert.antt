@@ -1,5 +1,5 @@
 -- The INSERT statements of data files (MySQL 8.0 Reference Manual, 15.2.7 "INSERT").
-use Rattle.std.specs.Prelude.{◌≡◌, ℕ, ◌+◌, Bool, true, false, ◌==◌, if◌then◌else◌, List, [], ◌∷◌, ◌++◌, codes}
+use Rattle.std.specs.Prelude.{◌≡◌, ℕ, ◌+◌, Bool, true, false, ◌==◌, if◌then◌else◌, List, ◌++◌, codes}
 use Rattle.grammar.specs.Language.{Language, Fixed, One, Then, Times, Many}
 use Rattle.sql_literals.specs.Name.{quoted_name}
 use Rattle.sql_literals.specs.Spelling.{Literal}

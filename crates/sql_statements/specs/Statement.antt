@@ -1,5 +1,5 @@
 -- Which statements have a text, and which statement a text is.
-use Rattle.std.specs.Prelude.{◌≡◌, ℕ, ◌<◌, ◌^◌, ◌⊎◌, ⊤, ℤ, pos, negsuc, nat_le, ◌&&◌, ◌||◌, Bool, true, List, [], length}
+use Rattle.std.specs.Prelude.{◌≡◌, ℕ, ◌<◌, ◌^◌, ◌⊎◌, ⊤, ℤ, pos, negsuc, nat_le, ◌&&◌, ◌||◌, Bool, true, List, length}
 use Rattle.std.specs.List.{list_all}
 use Rattle.grammar.specs.Language.{Language}
 use Rattle.object_texts.specs.Head.{HasHead}

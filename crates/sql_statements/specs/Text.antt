@@ -1,5 +1,5 @@
 -- The texts of statements (MySQL 8.0 Reference Manual, 15.3 "Transactional and Locking Statements", 15.7.6 "SET Statements", 15.7.7 "SHOW Statements", 15.2.13 "SELECT", 28.3 "INFORMATION_SCHEMA General Tables").
-use Rattle.std.specs.Prelude.{ℕ, List, [], ◌∷◌, ◌++◌, map, codes, decimal, ℤ}
+use Rattle.std.specs.Prelude.{ℕ, List, ◌++◌, map, codes, decimal, ℤ}
 use Rattle.std.specs.Fmt.{signed_decimal}
 use Rattle.std.specs.List.{join_with_byte}
 use Rattle.sql_literals.specs.Literal.{quoted}

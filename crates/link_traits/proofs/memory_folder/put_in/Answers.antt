@@ -1,5 +1,5 @@
-use Rattle.std.proofs.Common.{◌≡◌, List, ℕ, Some, None, Option, sym, ◌∙◌, rules, true, false, subst}
-use Rattle.std.specs.List.{position, list_any}
+use Rattle.std.proofs.Common.{◌≡◌, Some, None, sym, ◌∙◌, rules, true, false}
+use Rattle.std.specs.List.{position}
 use Rattle.std.proofs.lemmas.Bool.{false≢true}
 use Rattle.link_traits.specs.Memory.{is_named}
 use Rattle.link_traits.proofs.Parts.{position-with_file, position-None}

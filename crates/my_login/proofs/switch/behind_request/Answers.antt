@@ -1,4 +1,4 @@
-use Rattle.std.proofs.Common.{◌≡◌, ℕ, List, [], ◌∷◌, Some, sym, ◌∙◌, ap, Option}
+use Rattle.std.proofs.Common.{◌≡◌, ℕ, List, [], ◌∷◌, Some, ◌∙◌, ap, Option}
 use Rattle.my_login.specs.Switch.{switch_to, switch_named, behind_request}
 use Rattle.my_login.specs.Texts.{to_zero}
 use Rattle.my_login.proofs.switch.behind_request.Goals as goal

@@ -1,4 +1,4 @@
-use Rattle.std.proofs.Common.{◌≡◌, Some, None, ◌∙◌, sym, rules}
+use Rattle.std.proofs.Common.{◌≡◌, Some, None, ◌∙◌, rules}
 use Rattle.link_traits.specs.Memory.{bytes_of}
 use Rattle.link_traits.proofs.Parts.{bytes_of-found, bytes_of-passed}
 use Rattle.link_traits.proofs.memory_folder.MemoryFolder.file.Goals as goal
