@@ -113,7 +113,7 @@ cell_eq-Decides (Value a) (Value b) = (λ e. ap (λ (l : List ℕ). Value l) ((b
 cell_eq-Decides Null (Value b) = (λ e. cc, λ e. cc)
 cell_eq-Decides (Value a) Null = (λ e. cc, λ e. cc)
 
-row_is : (a b : List Cell) → row_eq a b ≡ true → a ≡ b
+pub row_is : (a b : List Cell) → row_eq a b ≡ true → a ≡ b
 row_is a b e = (slice_eq-Decides cell_eq-Decides a b (row_eq a b) refl).0 e
 
 counted_rows : (one other : Database) (schema name : List ℕ) (row : List Cell) (tables : List TableRows) → list_all (same_table one other) tables ≡ true
