@@ -1,13 +1,11 @@
 -- Interleavings of lists that change the rows of different tables.
-use Rattle.std.proofs.Common.{◌≡◌, ℕ, Bool, true, false, not, List, [], ◌∷◌, Some, refl, ap, sym, ◌∙◌, subst}
-use Rattle.std.specs.Prelude.{All, count_by, map}
+use Rattle.std.proofs.Common.{◌≡◌, ℕ, Bool, true, false, not, List, [], ◌∷◌, Some, refl, ap, sym, ◌∙◌}
+use Rattle.std.specs.Prelude.{All, map}
 use Rattle.std.specs.List.{list_all}
 use Rattle.std.proofs.lemmas.Bool.{false≢true}
 use Rattle.std.proofs.lemmas.List.Elements.{All-cons, All-head, All-nil, All-tail}
 use Rattle.std.proofs.lemmas.Option.{option_and_then_some}
-use Rattle.server_model.proofs.Counts.{and_both, and_left, and_right}
-use Rattle.server_model.specs.Agree.{Agree, is_before, object_eq}
-use Rattle.server_model.specs.Bag.{count_of}
+use Rattle.server_model.proofs.Counts.{and_left, and_right}
 use Rattle.server_model.specs.Fold.{changes_db, more_db, rows_of}
 use Rattle.server_model.specs.History.{TakesHead, here, there}
 use Rattle.server_model.specs.declared.data.Database.{Database}
@@ -15,7 +13,7 @@ use Rattle.server_model.specs.declared.data.Transaction.{Transaction}
 use Rattle.history_laws.proofs.Objects.{is_not, same_some}
 use Rattle.history_laws.proofs.Rows.{Alike, Follows, Untouched, steps}
 use Rattle.history_laws.proofs.Steps.{kept_to_end}
-use Rattle.history_laws.specs.Laws.{AreApart, InterleavingsAgree, IsApart, IsBehind, IsShareOf, ListsOverDifferentTablesCommute, Share, changes_row, is_none_of, is_over}
+use Rattle.history_laws.specs.Laws.{AreApart, IsApart, IsShareOf, ListsOverDifferentTablesCommute, Share, changes_row, is_none_of, is_over}
 
 -- what is left of a share's list: it leads from a database that has the state's objects and, in the share's tables, its rows to where the share leads
 record Stands (state : Database) (share : Share) (list : List Transaction) : Type 0 where
@@ -174,33 +172,3 @@ commute start shares are apart whole order =
             stand = step.stand;
           },
         )
-
--- of two databases that have what the shares leave, each table has the same rows
-same_rows : (last next : Database) (schema name : List ℕ) (shares : List Share) → All (HasOwn last) shares → All (HasOwn next) shares → (is_none_of shares schema name ≡ true → rows_of last schema name ≡ rows_of next schema name)
-    → rows_of last schema name ≡ rows_of next schema name
-same_rows last next schema name [] own own_too none = none refl
-same_rows last next schema name (share ∷ shares) own own_too none =
-    by_test (share.takes schema name) refl (λ others. same_rows last next schema name shares (All-tail (HasOwn last) share shares own) (All-tail (HasOwn next) share shares own_too) others)
-  where
-    by_test : (b : Bool) → share.takes schema name ≡ b → ((is_none_of shares schema name ≡ true → rows_of last schema name ≡ rows_of next schema name) → rows_of last schema name ≡ rows_of next schema name)
-        → rows_of last schema name ≡ rows_of next schema name
-    by_test true taken rest = All-head (HasOwn last) share shares own schema name taken ∙ sym (All-head (HasOwn next) share shares own_too schema name taken)
-    by_test false taken rest = rest (λ others. none (and_both (not (share.takes schema name)) (is_none_of shares schema name) (ap not taken) others))
-
--- the same objects and the same rows of each table
-agree : (one other : Database) → one.objects ≡ other.objects → ((schema name : List ℕ) → rows_of one schema name ≡ rows_of other schema name) → Agree one other
-unfolding is_before
-agree one other objects rows = record {
-  objects = record { counts = λ object. ap (count_by (object_eq object)) objects };
-  order = λ schema table first second. rw objects refl;
-  rows = λ schema name. record { counts = λ row. ap (count_of row) (rows schema name) };
-}
-
-pub interleavings_agree : InterleavingsAgree
-interleavings_agree start shares are apart one other order order_too last next fits fits_too =
-    let behind = commute start shares are apart one order in
-    let behind_too = commute start shares are apart other order_too in
-    both (subst (IsBehind start shares) (same_some (sym behind.1 ∙ fits)) behind.2) (subst (IsBehind start shares) (same_some (sym behind_too.1 ∙ fits_too)) behind_too.2)
-  where
-    both : IsBehind start shares last → IsBehind start shares next → Agree last next
-    both is is_too = agree last next (is.objects ∙ sym is_too.objects) (λ schema name. same_rows last next schema name shares is.own is_too.own (λ none. is.others schema name none ∙ sym (is_too.others schema name none)))

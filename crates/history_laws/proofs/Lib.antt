@@ -1,4 +1,5 @@
 pub mod Apart
+pub mod Balance
 pub mod Objects
 pub mod Rows
 pub mod Steps

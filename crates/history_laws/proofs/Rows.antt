@@ -17,7 +17,7 @@ use Rattle.sql_literals.specs.declared.cell.Cell.{Cell}
 use Rattle.history_laws.proofs.Objects.{bytes_are, same_some}
 use Rattle.history_laws.specs.Laws.{changes_row}
 
-abbrev Rows : Type 0
+abbrev pub Rows : Type 0
 Rows = List (List Cell)
 
 -- the rows of lists one behind the other
@@ -55,7 +55,7 @@ first_join row (one ∷ front) behind = by_test (row_eq row one) (first_join row
     by_test false e = ap (λ (found : Option Rows). option_map (λ (rest : Rows). one ∷ rest) found) e ∙ by_found (without_first row front) (without_first row behind)
 
 -- the row that is taken out of the lists is the first of the table's rows
-same_first : (schema name : List ℕ) (row : List Cell) (tables : List TableRows) → option_map (rows_in schema name) (without_row schema name row tables) ≡ without_first row (rows_in schema name tables)
+pub same_first : (schema name : List ℕ) (row : List Cell) (tables : List TableRows) → option_map (rows_in schema name) (without_row schema name row tables) ≡ without_first row (rows_in schema name tables)
 same_first schema name row [] = refl
 same_first schema name row (one ∷ others) = by_test (is_of_table schema name one) refl (same_first schema name row others)
   where
@@ -77,7 +77,7 @@ same_first schema name row (one ∷ others) = by_test (is_of_table schema name o
     by_test false is e = passed is (without_row schema name row others) ∙ e
 
 -- the rows of another table stay as they are
-frame : (schema name : List ℕ) (row : List Cell) (other_schema other_name : List ℕ) → (bytes_eq schema other_schema && bytes_eq name other_name) ≡ false → (tables fewer : List TableRows) → without_row schema name row tables ≡ Some fewer
+pub frame : (schema name : List ℕ) (row : List Cell) (other_schema other_name : List ℕ) → (bytes_eq schema other_schema && bytes_eq name other_name) ≡ false → (tables fewer : List TableRows) → without_row schema name row tables ≡ Some fewer
     → rows_in other_schema other_name fewer ≡ rows_in other_schema other_name tables
 frame schema name row other_schema other_name other [] fewer e = absurd (cc)
 frame schema name row other_schema other_name other (one ∷ others) fewer e = by_test (is_of_table schema name one) refl (λ rest found. frame schema name row other_schema other_name other others rest found) e
@@ -135,10 +135,10 @@ other_table takes schema name other_schema other_name is is_not = by_test (bytes
 abbrev has_table : List ℕ → List ℕ → List Object → Bool
 has_table schema name objects = list_any (is_object Table schema name) objects
 
-abbrev fits_table : List ℕ → List ℕ → List Cell → List Object → Bool
+abbrev pub fits_table : List ℕ → List ℕ → List Cell → List Object → Bool
 fits_table schema name row objects = list_any (takes_row schema name (length row)) objects
 
-put_rows : (database : Database) (schema name : List ℕ) (row : List Cell) (other_schema other_name : List ℕ)
+pub put_rows : (database : Database) (schema name : List ℕ) (row : List Cell) (other_schema other_name : List ℕ)
     → rows_of (with_row database schema name row) other_schema other_name ≡ rows_of database other_schema other_name ++ cond (bytes_eq schema other_schema && bytes_eq name other_name) (row ∷ []) []
 unfolding rows_of
 put_rows database schema name row other_schema other_name = rows_join other_schema other_name database.rows _
@@ -170,13 +170,13 @@ put_step takes schema name row is now state middle same fits =
     }
 
 -- a row that is removed
-record Removed (old new : Database) (schema name : List ℕ) (row : List Cell) : Type 0 where
-  there : has_table schema name old.objects ≡ true
-  fewer : List TableRows
-  found : without_row schema name row old.rows ≡ Some fewer
-  new_is : record old { rows = fewer } ≡ new
+pub record Removed (old new : Database) (schema name : List ℕ) (row : List Cell) : Type 0 where
+  pub there : has_table schema name old.objects ≡ true
+  pub fewer : List TableRows
+  pub found : without_row schema name row old.rows ≡ Some fewer
+  pub new_is : record old { rows = fewer } ≡ new
 
-removed : (old new : Database) (schema name : List ℕ) (row : List Cell) → change_db old (Remove schema name row) ≡ Some new → Removed old new schema name row
+pub removed : (old new : Database) (schema name : List ℕ) (row : List Cell) → change_db old (Remove schema name row) ≡ Some new → Removed old new schema name row
 unfolding change_db has_object
 removed old new schema name row fits = by_test (has_table schema name old.objects) refl (without_row schema name row old.rows) refl fits
   where

@@ -1,9 +1,11 @@
 -- Laws of histories and of their interleavings, of which the functions of src/laws.rt are the proofs.
-use Rattle.std.specs.Prelude.{ℕ, ◌≡◌, ◌≤◌, not, Bool, true, false, List, [], ◌∷◌, length, map, filter, All, Some}
+use Rattle.std.specs.Prelude.{ℕ, ◌≡◌, ◌≤◌, ◌&&◌, not, if◌then◌else◌, Bool, true, false, List, [], ◌∷◌, ◌++◌, length, map, filter, filter_map, flat_map, All, Option, Some, None, bytes_eq}
 use Rattle.std.specs.List.{list_all}
 use Rattle.object_texts.specs.declared.head.Kind.{Kind}
 use Rattle.object_texts.specs.declared.head.Kind.TheVariants.{Schema}
+use Rattle.sql_literals.specs.declared.cell.Cell.{Cell}
 use Rattle.server_model.specs.Agree.{Agree}
+use Rattle.server_model.specs.Bag.{IsSameBag}
 use Rattle.server_model.specs.Equal.{kind_eq}
 use Rattle.server_model.specs.Fold.{changes_db, db, has_schema, is_object, more_db, rows_of}
 use Rattle.server_model.specs.History.{Interleaves, TakesHead}
@@ -58,11 +60,47 @@ abbrev pub ListsOverDifferentTablesCommute : Type 0
 ListsOverDifferentTablesCommute = (start : Database) (shares : List Share) → All (IsShareOf start) shares → AreApart shares
     → (whole : List Transaction) → Interleaves (map (λ (share : Share). share.list) shares) whole → (last : Database) × (more_db start whole ≡ Some last) × IsBehind start shares last
 
--- so the databases behind any two of them agree
+-- every table is taken
+abbrev pub any_table : List ℕ → List ℕ → Bool
+any_table schema name = true
+
+-- the databases behind any two interleavings of lists that change nothing but rows agree, where both fit
 abbrev pub InterleavingsAgree : Type 0
-InterleavingsAgree = (start : Database) (shares : List Share) → All (IsShareOf start) shares → AreApart shares
-    → (one other : List Transaction) → Interleaves (map (λ (share : Share). share.list) shares) one → Interleaves (map (λ (share : Share). share.list) shares) other
-    → (last next : Database) → more_db start one ≡ Some last → more_db start other ≡ Some next → Agree last next
+InterleavingsAgree = (start : Database) (lists : List (List Transaction)) → All (λ (list : List Transaction). is_over any_table list ≡ true) lists
+    → (one other : List Transaction) → Interleaves lists one → Interleaves lists other → (last next : Database) → more_db start one ≡ Some last → more_db start other ≡ Some next → Agree last next
+
+abbrev pub is_put : Change → Bool
+is_put (Put schema name row) = true
+is_put other = false
+
+-- the transactions do nothing but put rows
+abbrev pub only_puts : List Transaction → Bool
+only_puts list = list_all (λ one. list_all is_put one.changes) list
+
+-- such a list, which fits alone
+pub record PutsRows (start : Database) (list : List Transaction) : Type 0 where
+  pub only : only_puts list ≡ true
+  pub last : Database
+  pub fits : more_db start list ≡ Some last
+
+-- the row that a change puts into the table
+abbrev pub row_into : List ℕ → List ℕ → Change → Option (List Cell)
+row_into schema name (Put other_schema other_name row) = if bytes_eq other_schema schema && bytes_eq other_name name then Some row else None
+row_into schema name other = None
+
+-- the rows that the transactions put into the table
+abbrev pub rows_into : List ℕ → List ℕ → List Transaction → List (List Cell)
+rows_into schema name list = flat_map (λ one. filter_map (row_into schema name) one.changes) list
+
+-- the database behind an interleaving of such lists: in each table stand the rows from before and those that each list puts there
+pub record IsFilledBy (start : Database) (lists : List (List Transaction)) (last : Database) : Type 0 where
+  pub objects : last.objects ≡ start.objects
+  pub rows : (schema name : List ℕ) → IsSameBag (rows_of last schema name) (rows_of start schema name ++ flat_map (rows_into schema name) lists)
+
+-- every interleaving of lists that only put rows fits, and leaves what each of them puts, be it in one table or in several
+abbrev pub ListsThatPutRowsCommute : Type 0
+ListsThatPutRowsCommute = (start : Database) (lists : List (List Transaction)) → All (PutsRows start) lists
+    → (whole : List Transaction) → Interleaves lists whole → (last : Database) × (more_db start whole ≡ Some last) × IsFilledBy start lists last
 
 -- the only interleaving of one list is the list
 abbrev pub OneListIsItsInterleaving : Type 0

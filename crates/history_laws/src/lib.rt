@@ -6,6 +6,6 @@
 mod laws;
 
 pub use laws::{
-    lists_over_different_tables_commute, objects_stand_once, one_list_is_its_interleaving,
-    schemas_are_there, their_interleavings_agree,
+    interleavings_agree, lists_over_different_tables_commute, lists_that_put_rows_commute,
+    objects_stand_once, one_list_is_its_interleaving, schemas_are_there,
 };
