@@ -55,7 +55,7 @@ pub record IsBehind (start : Database) (shares : List Share) (last : Database) :
   pub own : All (λ (share : Share). (schema name : List ℕ) → share.takes schema name ≡ true → rows_of last schema name ≡ rows_of share.behind schema name) shares
   pub others : (schema name : List ℕ) → is_none_of shares schema name ≡ true → rows_of last schema name ≡ rows_of start schema name
 
--- every interleaving of lists over different tables fits, and leaves in each table what its own list leaves there
+-- every interleaving of lists over different tables fits where each of them does alone, and leaves in each table what its own list leaves there
 abbrev pub ListsOverDifferentTablesCommute : Type 0
 ListsOverDifferentTablesCommute = (start : Database) (shares : List Share) → All (IsShareOf start) shares → AreApart shares
     → (whole : List Transaction) → Interleaves (map (λ (share : Share). share.list) shares) whole → (last : Database) × (more_db start whole ≡ Some last) × IsBehind start shares last
@@ -97,7 +97,7 @@ pub record IsFilledBy (start : Database) (lists : List (List Transaction)) (last
   pub objects : last.objects ≡ start.objects
   pub rows : (schema name : List ℕ) → IsSameBag (rows_of last schema name) (rows_of start schema name ++ flat_map (rows_into schema name) lists)
 
--- every interleaving of lists that only put rows fits, and leaves what each of them puts, be it in one table or in several
+-- every interleaving of lists that only put rows fits where each of them does alone, and leaves what each of them puts, be it in one table or in several
 abbrev pub ListsThatPutRowsCommute : Type 0
 ListsThatPutRowsCommute = (start : Database) (lists : List (List Transaction)) → All (PutsRows start) lists
     → (whole : List Transaction) → Interleaves lists whole → (last : Database) × (more_db start whole ≡ Some last) × IsFilledBy start lists last

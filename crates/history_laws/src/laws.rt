@@ -1,8 +1,8 @@
 // What follows from the definitions. Nothing here runs: the contracts are the laws.
 ghost use Rattle.history_laws.specs.Laws.{InterleavingsAgree, ListsOverDifferentTablesCommute, ListsThatPutRowsCommute, ObjectsStandOnce, OneListIsItsInterleaving, SchemasAreThere};
 
-/// Every interleaving of lists that change the rows of different tables fits, and leaves in each table
-/// what its own list leaves there.
+/// Every interleaving of lists that change the rows of different tables fits where each of them fits
+/// alone, and leaves in each table what its own list leaves there.
 pub fn lists_over_different_tables_commute()
     ensures { ListsOverDifferentTablesCommute }
 {}
