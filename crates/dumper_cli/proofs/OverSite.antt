@@ -10,7 +10,7 @@ use Rattle.my_session.specs.Wire.{Wire}
 use Rattle.my_session.specs.declared.fault.SessionFault.{SessionFault}
 use Rattle.my_session.specs.declared.fault.SessionFault.TheVariants.{Link, Refused, Garbled, NotProtocol10, PluginUnsupported, TooLong, StreamTooLong, OutOfMemory}
 use Rattle.dumper_cli.specs.Course.{Comes, EndsWith}
-use Rattle.dumper_cli.specs.Outside.{next_wire, SaidAtMost, a_front, a_goodbye, EndedBy, SiteTabled}
+use Rattle.dumper_cli.specs.Outside.{next_wire, SaidAtMost, a_front, with_quit, EndedBy, SiteTabled}
 use Rattle.dumper_cli.specs.OverLink.{LinkDumped, LinkStopped, StoppedOver}
 use Rattle.dumper_cli.specs.Run.{SaidFront}
 use Rattle.dumper_cli.specs.Stage.{is_over}
@@ -40,7 +40,7 @@ module _ {L S : Type 0} (link : LinkGhosts L) (shelf : ShelfGhosts S) (asked : A
         let front = subst (λ (w : Wire). SaidFront asked w said.sent) (same_start (begins t)) said.front in
         elim said.sent_is [
           | inl is ↦ a_front front (told t ∙ ap (returned (connected old)) is)
-          | inr is ↦ a_goodbye front (told t ∙ ap (returned (connected old)) is)
+          | inr is ↦ with_quit front (told t ∙ ap (returned (connected old)) is)
         ]
 
     pub SiteTabled-dumped : (rose : Type 0) → (Rose (link.faults a) (link.faults b) → rose) → LinkDumped link shelf asked a before b behind → SiteTabled asked tells rose old new (shelf.tells before) (shelf.told behind).made

@@ -47,7 +47,7 @@ pub data SaidAtMost (asked : Asked) (old new : SiteTold) : Type 0 where
   nothing : new ≡ old → SaidAtMost asked old new
   no_link : new ≡ connected old → SaidAtMost asked old new
   a_front : {sent : List (List ℕ)} → SaidFront asked (next_wire old) sent → new ≡ returned (connected old) sent → SaidAtMost asked old new
-  a_goodbye : {sent : List (List ℕ)} → SaidFront asked (next_wire old) sent → new ≡ returned (connected old) (sent ++ QUIT.now ∷ []) → SaidAtMost asked old new
+  with_quit : {sent : List (List ℕ)} → SaidFront asked (next_wire old) sent → new ≡ returned (connected old) (sent ++ QUIT.now ∷ []) → SaidAtMost asked old new
 
 -- the folder lists this name first, in the order of the bytes
 pub record IsLeast (name : List ℕ) (files : List FolderFile) : Type 0 where

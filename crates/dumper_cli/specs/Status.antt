@@ -36,12 +36,12 @@ pub record IsEnding (asked : Asked) (site_tells : Type 0) (site : SiteTold) (sta
   pub status_is : session_status fault ≡ status
   pub ends : site_tells → EndsWith asked (next_wire site) fault
 
--- each status but 0 and 2 has its cause
+-- each status but 0, 2 and 5 has its cause here: those of 0 and 2 are said apart, and want of memory has none
 pub record IsCaused (asked : Asked) (site_tells : Type 0) (site : SiteTold) (site_rose folder_tells : Type 0) (contents : List FolderFile) (folder_rose : Type 0) (status : ℕ) : Type 0 where
   pub fine : status ≤ 5
   -- the folder lists a name, or a message came or was to be sent at which a dump ends so
   pub one : status ≡ 1 → ((name : List ℕ) × (folder_tells → IsLeast name contents)) ⊎ IsEnding asked site_tells site 1
-  -- the server answered an ERR
+  -- an ERR came, in the greeting's place or in answer to a message
   pub three : status ≡ 3 → (form : Form) × (refusal : Refusal) × (site_tells → EndsWith asked (next_wire site) (Refused form refusal))
   -- the site's or the folder's count of faults rose in this call
   pub four : status ≡ 4 → site_rose ⊎ folder_rose

@@ -35,8 +35,8 @@ abbrev pub failed : Counts → Counts
 failed counts = record counts { listed = capped (counts.listed + 1) }
 
 -- a failure for want of memory
-abbrev pub starved : Counts → Counts
-starved counts = record counts { wanting = capped (counts.wanting + 1) }
+abbrev pub lacked_memory : Counts → Counts
+lacked_memory counts = record counts { wanting = capped (counts.wanting + 1) }
 
 -- the next call was made, and counted as a failure if it is listed
 abbrev pub called : Counts → Counts
@@ -54,11 +54,11 @@ added counts others = record counts {
 
 -- what a failed call is counted as: it was listed, it could not be helped, or memory was wanting
 abbrev pub after_failure : Counts → Bool → Counts
-after_failure counts hopeless = if is_listed counts then called counts else (if hopeless then failed (called counts) else starved (called counts))
+after_failure counts unavoidable = if is_listed counts then called counts else (if unavoidable then failed (called counts) else lacked_memory (called counts))
 
 -- a call is counted; it fails where it is listed or can't be helped, and else only for want of memory
-pub record Counted {T E : Type 0} (old : Counts) (hopeless : Bool) (result : Result T E) (new : Counts) : Type 0 where
+pub record Counted {T E : Type 0} (old : Counts) (unavoidable : Bool) (result : Result T E) (new : Counts) : Type 0 where
   pub ok : OnOk result (new ≡ called old)
   pub unlisted : OnOk result (is_listed old ≡ false)
-  pub hopeful : OnOk result (hopeless ≡ false)
-  pub err : OnErr result (new ≡ after_failure old hopeless)
+  pub avoidable : OnOk result (unavoidable ≡ false)
+  pub err : OnErr result (new ≡ after_failure old unavoidable)

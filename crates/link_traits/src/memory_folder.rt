@@ -258,7 +258,7 @@ impl Folder for MemoryFolder {
         match self.begin() {
             Ok(shelf) => Ok(shelf),
             Err(OutOfMemory) => {
-                self.script.starve();
+                self.script.lack_memory();
                 Err(FolderFailed)
             }
         }

@@ -170,7 +170,7 @@ impl Shelf for MemoryShelf {
             return Err(FolderFailed);
         }
         if self.begin(name).is_err() {
-            self.script.starve();
+            self.script.lack_memory();
             return Err(FolderFailed);
         }
         Ok(())
@@ -190,7 +190,7 @@ impl Shelf for MemoryShelf {
             return Err(FolderFailed);
         }
         if self.extend(bytes).is_err() {
-            self.script.starve();
+            self.script.lack_memory();
             return Err(FolderFailed);
         }
         Ok(())
@@ -206,7 +206,7 @@ impl Shelf for MemoryShelf {
             return Err(FolderFailed);
         }
         if self.end().is_err() {
-            self.script.starve();
+            self.script.lack_memory();
             return Err(FolderFailed);
         }
         Ok(())

@@ -59,7 +59,7 @@ impl Sink for MemorySink {
             return Err(SinkFailed);
         }
         if self.written.extend_from_slice(bytes).is_err() {
-            self.script.starve();
+            self.script.lack_memory();
             return Err(SinkFailed);
         }
         Ok(())

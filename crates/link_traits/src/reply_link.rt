@@ -162,7 +162,7 @@ impl Link for ReplyLink {
         }
         if self.answer(message).is_err() {
             self.failed = true;
-            self.script.starve();
+            self.script.lack_memory();
             return Err(LinkFailed);
         }
         Ok(())

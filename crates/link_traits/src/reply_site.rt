@@ -164,7 +164,7 @@ impl ReplySite {
         match self.begin(number, replies) {
             Ok(link) => Ok(link),
             Err(OutOfMemory) => {
-                self.script.starve();
+                self.script.lack_memory();
                 Err(LinkFailed)
             }
         }

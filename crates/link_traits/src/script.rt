@@ -1,7 +1,7 @@
 // The calls that are to fail, and the counts of those that did.
 ghost use Rattle.std.specs.Prelude.{◌≡◌, ◌==◌, ◌+◌, IfOk, if◌then◌else◌};
 ghost use Rattle.std.specs.List.{list_any};
-ghost use Rattle.link_traits.specs.Script.{script_of, Counts, capped, number_of, is_listed, failed, starved, called, added};
+ghost use Rattle.link_traits.specs.Script.{script_of, Counts, capped, number_of, is_listed, failed, lacked_memory, called, added};
 
 use sql_literals::{NumberList, OutOfMemory};
 use std::marker::Model;
@@ -75,8 +75,8 @@ impl Script {
     }
 
     // Counts a failure for want of memory.
-    pub(crate) fn starve(&mut self)
-        ensures { self.new ≡ starved self.old }
+    pub(crate) fn lack_memory(&mut self)
+        ensures { self.new ≡ lacked_memory self.old }
     {
         self.wanting = self.wanting.saturating_add(1);
     }

@@ -20,7 +20,7 @@ use Rattle.my_session.proofs.Staying.{stays_begin, stays_on}
 use Rattle.my_session.proofs.Within.{wrong_within, full_within}
 use Rattle.my_session.specs.Channel.{wire_at, packets_within, Skimmed as Skimming}
 use Rattle.my_session.specs.Halt.{Misheard}
-use Rattle.my_session.specs.Receiving.{Sips, Spoils, Drains, Unsipped}
+use Rattle.my_session.specs.Receiving.{SkimsPiece, Spoils, Drains, Unskimmed}
 use Rattle.my_session.specs.Serving.{IsServing, MessageWaits, Stays, Gives, DeliversFront}
 use Rattle.my_session.specs.Wire.{within}
 use Rattle.my_session.specs.declared.fault.SessionFault.{SessionFault}
@@ -38,10 +38,10 @@ counted_by : (size count bytes : ℕ) → count ≡ size / 16777215 + 1 → byte
 counted_by size count bytes count_is bytes_is = omega arith
 
 module _ {L : Type 0} (of : Ghosts L) where
-  pub sips_piece : (old new : L) (E : Type 0) (before now : Skimmed) (done : Unit {0}) (taken count : ℕ) (buffer rest : List ℕ) → (of.tells old → Receives {E = E} (of.told old) buffer (Ok count) (of.told new)) → (of.honest old → (of.served old).failed ≡ true → IsErr {T = ℕ} {E = E} (Ok count) × (of.served new ≡ of.served old)) → (of.honest old → (of.served old).failed ≡ false → TakesServed {E = E} (of.served old) buffer (Ok count) (of.served new))
+  pub skims_piece : (old new : L) (E : Type 0) (before now : Skimmed) (done : Unit {0}) (taken count : ℕ) (buffer rest : List ℕ) → (of.tells old → Receives {E = E} (of.told old) buffer (Ok count) (of.told new)) → (of.honest old → (of.served old).failed ≡ true → IsErr {T = ℕ} {E = E} (Ok count) × (of.served new ≡ of.served old)) → (of.honest old → (of.served old).failed ≡ false → TakesServed {E = E} (of.served old) buffer (Ok count) (of.served new))
       → Feeds before (take count (buffer ++ rest)) (Ok done) now → 0 < count → count ≤ length buffer
-      → Sips of old new before now taken (taken + count)
-  sips_piece old new E before now done taken count buffer rest received dead served feeds some fits =
+      → SkimsPiece of old new before now taken (taken + count)
+  skims_piece old new E before now done taken count buffer rest received dead served feeds some fits =
       let is : take count (buffer ++ rest) ≡ take count buffer = take-append-le count buffer rest fits in
       let size : length (take count buffer) ≡ count = length-take-le count buffer fits in
       let same : length (take count (buffer ++ rest)) ≡ length (take count buffer) = ap (λ (l : List ℕ). length l) is in
@@ -83,29 +83,29 @@ module _ {L : Type 0} (of : Ghosts L) where
   }
 
   module _ (start link : L) (seq taken_first taken : ℕ) (skim : Skimmed) (drains : Drains of start link seq skim taken_first taken) where
-    pub drains_more : ((one next last : L) → of.same_origin one next → of.same_origin next last → of.same_origin one last) → (next : L) (now : Skimmed) (taken_now : ℕ) → (of.tells link ↔ of.tells next) → of.faults link ≤ of.faults next → (of.tells link → (of.told next).sent ≡ (of.told link).sent) → Stays of link next → Sips of link next skim now taken taken_now → Drains of start next seq now taken_first taken_now
-    drains_more joins next now taken_now tells later sent stays sips =
-        let all = length-append drains.fed sips.piece in
+    pub drains_more : ((one next last : L) → of.same_origin one next → of.same_origin next last → of.same_origin one last) → (next : L) (now : Skimmed) (taken_now : ℕ) → (of.tells link ↔ of.tells next) → of.faults link ≤ of.faults next → (of.tells link → (of.told next).sent ≡ (of.told link).sent) → Stays of link next → SkimsPiece of link next skim now taken taken_now → Drains of start next seq now taken_first taken_now
+    drains_more joins next now taken_now tells later sent stays step =
+        let all = length-append drains.fed step.piece in
         let before = drains.taken in
-        let after = sips.taken in
+        let after = step.taken in
         let once = drains.later in
         record {
           tells = (λ t. tells.0 (drains.tells.0 t), λ t. drains.tells.1 (tells.1 t));
           later = omega arith;
-          fed = drains.fed ++ sips.piece;
-          skims = sips.follows seq 67108864 drains.fed drains.skims;
-          right = sips.right;
+          fed = drains.fed ++ step.piece;
+          skims = step.follows seq 67108864 drains.fed drains.skims;
+          right = step.right;
           taken = omega arith;
           sent = λ t. sent (drains.tells.0 t) ∙ drains.sent t;
-          stream = λ t. append_assoc drains.fed sips.piece (stream (of.told next)) ∙ ap (λ (l : List ℕ). drains.fed ++ l) (sym (sips.stream (drains.tells.0 t))) ∙ drains.stream t;
+          stream = λ t. append_assoc drains.fed step.piece (stream (of.told next)) ∙ ap (λ (l : List ℕ). drains.fed ++ l) (sym (step.stream (drains.tells.0 t))) ∙ drains.stream t;
           stays = stays_on of joins start link next drains.stays stays;
           gives = λ serving.
               let first_gives = drains.gives serving in
-              let piece_gives = sips.gives (drains.stays.honest.0 serving.honest) in
+              let piece_gives = step.gives (drains.stays.honest.0 serving.honest) in
               record {
                 alive = piece_gives.alive;
                 state = piece_gives.state ∙ first_gives.state;
-                waits = first_gives.waits ∙ ap (λ (l : List ℕ). drains.fed ++ l) piece_gives.waits ∙ sym (append_assoc drains.fed sips.piece (of.served next).waiting);
+                waits = first_gives.waits ∙ ap (λ (l : List ℕ). drains.fed ++ l) piece_gives.waits ∙ sym (append_assoc drains.fed step.piece (of.served next).waiting);
               };
         }
 
@@ -174,7 +174,7 @@ module _ {L : Type 0} (of : Ghosts L) where
           (append_assoc drains.fed spoils.piece (stream (of.told next)) ∙ ap (λ (l : List ℕ). drains.fed ++ l) (sym (spoils.stream (drains.tells.0 t))) ∙ drains.stream t)
           (spoils.wrong seq 67108864 drains.fed drains.skims)
 
-      pub drained_not : (next : L) (fault : SessionFault) (wants taken_now id : ℕ) → 0 < wants → Wants 67108864 seq drains.fed wants → (of.tells link → (of.told next).sent ≡ (of.told link).sent) → Unsipped of link next skim taken taken_first fault
+      pub drained_not : (next : L) (fault : SessionFault) (wants taken_now id : ℕ) → 0 < wants → Wants 67108864 seq drains.fed wants → (of.tells link → (of.told next).sent ≡ (of.told link).sent) → Unskimmed of link next skim taken taken_first fault
           → of.tells start → Misheard (wire_at of start taken_first seq) fault (wire_at of next taken_now id)
       drained_not next Link wants taken_now id some wanted sent why t = sent (drains.tells.0 t) ∙ drains.sent t
       drained_not next (Refused form refusal) wants taken_now id some wanted sent why t = absurd why

@@ -73,7 +73,7 @@ pub record Gathers {L : Type 0} (of : Ghosts L) (old new : L) (before now : Unre
   pub gives : IsServing of old → Gives of now.bytes old new
 
 -- some bytes of a message were taken off a link, which a skim read
-pub record Sips {L : Type 0} (of : Ghosts L) (old new : L) (before now : Skimmed) (taken_before taken_now : ℕ) : Type 0 where
+pub record SkimsPiece {L : Type 0} (of : Ghosts L) (old new : L) (before now : Skimmed) (taken_before taken_now : ℕ) : Type 0 where
   pub piece : List ℕ
   pub some : 0 < length piece
   pub follows : (seq limit : ℕ) (fed : List ℕ) → Skims seq limit fed before → Skims seq limit (fed ++ piece) now
@@ -97,15 +97,15 @@ pub record Disorders {L : Type 0} (of : Ghosts L) (old new : L) (skim : Skimmed)
   pub spoils : Spoils of old new skim taken (BadSequence found wanted)
 
 -- why a skim read none
-abbrev pub Unsipped : {L : Type 0} → Ghosts L → L → L → Skimmed → ℕ → ℕ → SessionFault → Type 0
-Unsipped of old new skim taken began Link = Unit {0}
-Unsipped of old new skim taken began (Refused form refusal) = ⊥
-Unsipped of old new skim taken began (Garbled place) = Disorders of old new skim taken place began
-Unsipped of old new skim taken began (NotProtocol10 version) = ⊥
-Unsipped of old new skim taken began (PluginUnsupported name) = ⊥
-Unsipped of old new skim taken began (TooLong size) = Spoils of old new skim taken (FrameTooLong size)
-Unsipped of old new skim taken began StreamTooLong = taken ≡ 2 ^ 62
-Unsipped of old new skim taken began OutOfMemory = ⊥
+abbrev pub Unskimmed : {L : Type 0} → Ghosts L → L → L → Skimmed → ℕ → ℕ → SessionFault → Type 0
+Unskimmed of old new skim taken began Link = Unit {0}
+Unskimmed of old new skim taken began (Refused form refusal) = ⊥
+Unskimmed of old new skim taken began (Garbled place) = Disorders of old new skim taken place began
+Unskimmed of old new skim taken began (NotProtocol10 version) = ⊥
+Unskimmed of old new skim taken began (PluginUnsupported name) = ⊥
+Unskimmed of old new skim taken began (TooLong size) = Spoils of old new skim taken (FrameTooLong size)
+Unskimmed of old new skim taken began StreamTooLong = taken ≡ 2 ^ 62
+Unskimmed of old new skim taken began OutOfMemory = ⊥
 
 -- the bytes that a skim was fed are those that were taken off a link since then
 pub record Drains {L : Type 0} (of : Ghosts L) (old new : L) (seq : ℕ) (skim : Skimmed) (taken_before taken_now : ℕ) : Type 0 where

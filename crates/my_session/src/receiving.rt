@@ -6,7 +6,7 @@ ghost use Rattle.my_packets.specs.Skims.{wanted};
 ghost use Rattle.my_packets.specs.Steps.{Passes};
 ghost use Rattle.my_session.specs.Channel.{wire_at, IsOfChannel, Skimmed, packets_within};
 ghost use Rattle.my_session.specs.Halt.{Misheard};
-ghost use Rattle.my_session.specs.Receiving.{Fetches, Sips, Unfetched, Unsettled, Unsipped};
+ghost use Rattle.my_session.specs.Receiving.{Fetches, SkimsPiece, Unfetched, Unsettled, Unskimmed};
 ghost use Rattle.my_session.specs.Serving.{IsServing, Stays, MessageWaits, Delivers, DeliversFront};
 ghost use Rattle.my_session.specs.Session.{IsCounted};
 ghost use Rattle.my_session.specs.Wire.{Hears, IsOnward};
@@ -124,7 +124,7 @@ pub(crate) fn receive<L: Link>(
 }
 
 // Takes some bytes off the link, no more than the skim wants, and lets it read them.
-fn sip<L: Link>(
+fn skim_piece<L: Link>(
     link: &mut L,
     skim: &mut Skim,
     taken: &mut u64,
@@ -142,8 +142,8 @@ fn sip<L: Link>(
     ensures within { taken.new ≤ SESSION_LIMIT }
     ensures later { taken.old ≤ taken.new }
     ensures sent { L.tells link.old → (L.told link.new).sent ≡ (L.told link.old).sent }
-    ensures sips { OnOk result (Sips L.Link link.old link.new skim.old skim.new taken.old taken.new) }
-    ensures err { IfErr result (Unsipped L.Link link.old link.new skim.old taken.old began) }
+    ensures skims { OnOk result (SkimsPiece L.Link link.old link.new skim.old skim.new taken.old taken.new) }
+    ensures err { IfErr result (Unskimmed L.Link link.old link.new skim.old taken.old began) }
 {
     let room = room(wants, *taken);
     if room == 0 {
@@ -191,7 +191,7 @@ pub(crate) fn skim_message<L: Link>(
         if wants == 0 {
             return Ok(skim);
         }
-        if let Err(fault) = sip(link, &mut skim, taken, wants, began) {
+        if let Err(fault) = skim_piece(link, &mut skim, taken, wants, began) {
             return Err(fault);
         }
     }

@@ -100,7 +100,7 @@ const SET_NAMES: &[u8] = b"\x11\x00\x00\x00\x03SET NAMES binary";
 
 const QUERY: &[u8] = b"\x1d\x00\x00\x00\x03SELECT `id`,`a` FROM `s`.`t`";
 
-const GOODBYE: &[u8] = b"\x01\x00\x00\x00\x01";
+const QUIT: &[u8] = b"\x01\x00\x00\x00\x01";
 
 const WORDS: [&str; 8] = ["-u", "u", "-B", "s", "-T", "t", "-o", "out"];
 
@@ -333,7 +333,7 @@ fn the_messages_are_the_same_however_the_bytes_are_cut(rt: HostRuntime) -> Resul
         assert!(rt; ended.has_said(0, LOGIN));
         assert!(rt; ended.has_said(2, SET_NAMES));
         assert!(rt; ended.has_said(4, QUERY));
-        assert!(rt; ended.has_said(5, GOODBYE));
+        assert!(rt; ended.has_said(5, QUIT));
     }
     Ok(())
 }
@@ -501,7 +501,7 @@ fn a_row_of_two_packets_is_dumped_whole(rt: HostRuntime) -> Result<(), Fail> {
 }
 
 #[test]
-fn a_failing_goodbye_changes_nothing(rt: HostRuntime) -> Result<(), Fail> {
+fn a_failing_quit_changes_nothing(rt: HostRuntime) -> Result<(), Fail> {
     let case = Case {
         faults: &[46],
         ..PLAIN

@@ -44,7 +44,7 @@ const RESPONSE: &[u8] =
 const SWITCH_ANSWER: &[u8] =
     b"\x14\x00\x00\x03\x6e\xa7\x51\xec\x82\xdd\xf5\x29\xe2\xe2\xf0\x92\xff\x19\xcf\x11\x40\x11\x8e\xb0";
 
-const GOODBYE: &[u8] = b"\x01\x00\x00\x00\x01";
+const QUIT: &[u8] = b"\x01\x00\x00\x00\x01";
 
 // What is done on a session that was logged in.
 #[derive(Clone, Copy)]
@@ -315,7 +315,7 @@ fn a_password_is_proved_over_the_greeting(rt: HostRuntime) -> Result<(), Fail> {
     assert_eq!(rt; ended.report.ending, WELL);
     assert_eq!(rt; ended.sent(), 3);
     assert!(rt; ended.has_said(0, RESPONSE));
-    assert!(rt; ended.has_said(2, GOODBYE));
+    assert!(rt; ended.has_said(2, QUIT));
     Ok(())
 }
 

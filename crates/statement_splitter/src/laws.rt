@@ -23,7 +23,8 @@ pub fn too_long_stays_so()
     ensures { TooLongStaysSo }
 {}
 
-/// A law: the statements of three files, by their definition. Does nothing.
+/// A law: the statements of two files, and where one is begun in two more, by their definition. Does
+/// nothing.
 #[inline]
 pub fn files_are_divided_so()
     ensures comments_and_quotes { pieces (unread_file (codes "SET x; -- c;\nA 'x;''y' /* ; */ /*!1 ;DELIMITER $$\n a;\nb\n$$\nDELIMITER ;\nC")) ≡ record { offset = 0; text = codes "SET x" } ∷ record { offset = 13; text = codes "A 'x;''y' /* ; */ /*!1 " } ∷ record { offset = 37; text = codes "DELIMITER $$\n a" } ∷ record { offset = 54; text = codes "b\n$$\nDELIMITER " } ∷ [] }

@@ -13,13 +13,13 @@ returns-then-wants-eq0-clause-heard g c =
 pub returns-in-Err-clause-err : goal.returns-in-Err-clause-err
 returns-in-Err-clause-err g c = λ now.
     let is = c.in-Err.ensures in
-    drained_not g.L.Link c.args.link.now c.pieces.link c.args.id c.args.taken.now c.pieces.taken c.pieces.skim c.pieces.invariant.drains c.pieces.invariant.within c.sip.new.link c.in-Err.fault c.wants-wants.result c.sip.new.taken now (omega arith) (c.wants-wants.ensures.wants c.args.id 67108864 c.pieces.invariant.drains.fed c.pieces.invariant.drains.skims) is.sent is.err
+    drained_not g.L.Link c.args.link.now c.pieces.link c.args.id c.args.taken.now c.pieces.taken c.pieces.skim c.pieces.invariant.drains c.pieces.invariant.within c.skim_piece.new.link c.in-Err.fault c.wants-wants.result c.skim_piece.new.taken now (omega arith) (c.wants-wants.ensures.wants c.args.id 67108864 c.pieces.invariant.drains.fed c.pieces.invariant.drains.skims) is.sent is.err
 
 pub pieces-preserved : goal.pieces-preserved
 pieces-preserved g c =
     let is = c.in_default.ensures in
     record {
-      drains = drains_more g.L.Link c.args.link.now c.pieces.link c.args.id c.args.taken.now c.pieces.taken c.pieces.skim c.pieces.invariant.drains g.met.L.Link.origins_join c.sip.new.link c.sip.new.skim c.sip.new.taken is.tells is.counted.later is.sent is.stays is.sips;
+      drains = drains_more g.L.Link c.args.link.now c.pieces.link c.args.id c.args.taken.now c.pieces.taken c.pieces.skim c.pieces.invariant.drains g.met.L.Link.origins_join c.skim_piece.new.link c.skim_piece.new.skim c.skim_piece.new.taken is.tells is.counted.later is.sent is.stays is.skims;
       within = is.within;
     }
 
@@ -27,6 +27,6 @@ pub returns-then-wants-eq0-clause-delivers : goal.returns-then-wants-eq0-clause-
 returns-then-wants-eq0-clause-delivers g c =
     drained_delivers g.L.Link c.args.link.now c.pieces.link c.args.id c.args.taken.now c.pieces.taken c.pieces.skim c.pieces.invariant.drains c.pieces.invariant.within (sym c.wants-wants.ensures.value ∙ c.if-wants-eq0.true)
 
-pub sip-requires-clause-waits : goal.sip-requires-clause-waits
-sip-requires-clause-waits g c =
+pub skim_piece-requires-clause-waits : goal.skim_piece-requires-clause-waits
+skim_piece-requires-clause-waits g c =
     drained_waits g.L.Link c.args.link.now c.pieces.link c.args.id c.args.taken.now c.pieces.taken c.pieces.skim c.pieces.invariant.drains c.wants-wants.result c.requires.waits (omega arith) (c.wants-wants.ensures.wants c.args.id 67108864 c.pieces.invariant.drains.fed c.pieces.invariant.drains.skims)
