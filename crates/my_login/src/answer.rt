@@ -37,20 +37,3 @@ fn xor_of(first: &[u8; 20], second: &[u8; 20]) -> [u8; 20]
     }
     both
 }
-
-#[cfg(test)]
-mod tests {
-    use super::*;
-
-    // SHA-1 of `password` is 5baa61e4c9b93f3f0682250b6cf8331b7ee68fd8, that of these twenty bytes
-    // 2470c0c06dee42fd1618bb99005adca2ec9d1e19.
-    #[test]
-    fn answers_a_scramble(rt: HostRuntime) {
-        let want: [u8; 20] = [
-            0xbf, 0xdd, 0x49, 0x58, 0x4b, 0x91, 0x7d, 0x42, 0xc7, 0x58, 0xed, 0xd2, 0xa7, 0xa5,
-            0x41, 0xf7, 0x21, 0x84, 0x30, 0x41,
-        ];
-        let found = native_answer(b"password", b"abcdefghijklmnopqrst");
-        assert_eq!(rt; found, want);
-    }
-}

@@ -7,7 +7,7 @@ use crate::texts::{NATIVE_PASSWORD, text_size, to_zero};
 use result_rows::{Refusal, ShortText};
 
 /// What a server says first. (MySQL source documentation, `Protocol::HandshakeV10`.)
-#[derive(Clone, Copy, Debug)]
+#[derive(Clone, Copy)]
 pub struct Greeting {
     /// The server's version, of which 512 bytes are kept.
     pub version: ShortText,
@@ -136,111 +136,4 @@ fn plugin_of(offered: bool, bytes: &[u8]) -> Option<&[u8]>
         return None;
     }
     plugin_name(bytes)
-}
-
-#[cfg(test)]
-mod tests {
-    use super::*;
-    use std::test::Fail;
-
-    // What stands between the version and the plugin: of MySQL, of MariaDB, of a server without plugins,
-    // and without the capability for a scramble of twenty bytes.
-    const MYSQL: &[u8] =
-        b"\x08\x00\x00\x00abcdefgh\x00\xff\xff\xff\x02\x00\xff\xdf\x15\x00\x00\x00\x00\x00\x00\x00\x00\x00\x00ijklmnopqrst\x00";
-
-    const MARIADB: &[u8] =
-        b"\x25\x00\x00\x00abcdefgh\x00\xfe\xf7\x2d\x02\x00\xff\x81\x15\x00\x00\x00\x00\x00\x00\x1d\x00\x00\x00ijklmnopqrst\x00";
-
-    const PLAIN: &[u8] =
-        b"\x08\x00\x00\x00abcdefgh\x00\xff\xff\xff\x02\x00\xf7\xdf\x15\x00\x00\x00\x00\x00\x00\x00\x00\x00\x00ijklmnopqrst\x00";
-
-    const OLD: &[u8] =
-        b"\x08\x00\x00\x00abcdefgh\x00\xff\x7f\xff\x02\x00\xff\xdf\x15\x00\x00\x00\x00\x00\x00\x00\x00\x00\x00ijklmnopqrst\x00";
-
-    // Whether a greeting is read, with this plugin and the scramble of the cases.
-    fn has_plugin(payload: &[u8], plugin: &[u8]) -> bool {
-        match &Greeting::read(payload) {
-            Ok(greeting) => {
-                let scramble = greeting.scramble;
-                scramble == *b"abcdefghijklmnopqrst" && greeting.plugin.as_slice() == plugin
-            }
-            Err(_) => false,
-        }
-    }
-
-    fn is_garbled(payload: &[u8]) -> bool {
-        matches!(Greeting::read(payload), Err(LoginFault::Garbled))
-    }
-
-    #[test]
-    fn reads_greetings(rt: HostRuntime) -> Result<(), Fail> {
-        let version: &[u8] = b"\x0a8.0.35\x00";
-        let native: &[u8] = b"mysql_native_password";
-        let sha2: &[u8] = b"caching_sha2_password";
-        let cases: [(&[u8], &[u8], &[u8], Option<&[u8]>); 14] = [
-            (version, MYSQL, b"caching_sha2_password\x00", Some(sha2)),
-            (version, MYSQL, b"caching_sha2_password", Some(sha2)),
-            (
-                b"\x0a5.5.5-10.6.16-MariaDB\x00",
-                MARIADB,
-                b"mysql_native_password\x00",
-                Some(native),
-            ),
-            (version, PLAIN, b"caching_sha2_password\x00", Some(native)),
-            (version, PLAIN, b"", Some(native)),
-            (version, PLAIN, b"caching_sha2_password\x00x", None),
-            (b"\x0a8.0.35", b"", b"", None),
-            (version, OLD, b"caching_sha2_password\x00", None),
-            (version, MYSQL.split_at(43).0, b"", None),
-            (version, MYSQL, b"", None),
-            (version, MYSQL, b"caching_sha2_password\x00x", None),
-            (version, MYSQL, b"caching_sha2_password\x00\x00", None),
-            (version, b"", b"", None),
-            (b"", b"", b"", None),
-        ];
-        for (front, middle, end, want) in cases {
-            let mut payload = Vec::new(rt.alloc());
-            for part in [front, middle, end] {
-                payload.extend_from_slice(part)?;
-            }
-            let found = match want {
-                Some(plugin) => has_plugin(&payload, plugin),
-                None => is_garbled(&payload),
-            };
-            assert!(rt; found, "of {payload:?}");
-        }
-        Ok(())
-    }
-
-    #[test]
-    fn knows_one_protocol_version(rt: HostRuntime) {
-        let found = Greeting::read(b"\x098.0.35\x00\x08\x00\x00\x00abcdefgh\x00");
-        assert!(rt; matches!(found, Err(LoginFault::NotProtocol10(9))));
-    }
-
-    #[test]
-    fn keeps_the_version(rt: HostRuntime) {
-        let payload =
-            b"\x0a8.0.35\x00\x08\x00\x00\x00abcdefgh\x00\xff\xff\xff\x02\x00\xff\xdf\x15\x00\x00\x00\x00\x00\x00\x00\x00\x00\x00ijklmnopqrst\x00caching_sha2_password\x00";
-        match Greeting::read(payload) {
-            Ok(greeting) => assert_eq!(rt; greeting.version.as_slice(), b"8.0.35".as_slice()),
-            other => assert!(rt; false, "{other:?}"),
-        }
-    }
-
-    #[test]
-    fn reads_an_err(rt: HostRuntime) {
-        match Greeting::read(b"\xff\x10\x04Too many connections") {
-            Err(LoginFault::Refused(refusal)) => {
-                assert_eq!(rt; refusal.code, 1040);
-                assert_eq!(rt; refusal.state, *b"HY000");
-                assert_eq!(rt;
-                    refusal.message.as_slice(),
-                    b"Too many connections".as_slice()
-                );
-            }
-            other => assert!(rt; false, "{other:?}"),
-        }
-        assert!(rt; matches!(Greeting::read(b"\xff\x10"), Err(LoginFault::Garbled)));
-    }
 }

@@ -46,27 +46,3 @@ pub fn response_into(
     out.extend_from_slice(PLUGIN)?;
     Ok(())
 }
-
-#[cfg(test)]
-mod tests {
-    use super::*;
-    use std::test::Fail;
-
-    #[test]
-    fn answers_with_and_without_a_password(rt: HostRuntime) -> Result<(), Fail> {
-        let mut out = Vec::new(rt.alloc());
-        response_into(b"u", None, &mut out)?;
-        let without =
-            b"\x05\xa2\x08\x00\x00\x00\x00\x04\x2d\x00\x00\x00\x00\x00\x00\x00\x00\x00\x00\x00\x00\x00\x00\x00\x00\x00\x00\x00\x00\x00\x00\x00u\x00\x00mysql_native_password\x00";
-        assert_eq!(rt; out.len(), 57);
-        assert_eq!(rt; out.as_slice(), without.as_slice());
-        response_into(b"root", Some(b"ABCDEFGHIJKLMNOPQRST"), &mut out)?;
-        let with =
-            b"\x05\xa2\x08\x00\x00\x00\x00\x04\x2d\x00\x00\x00\x00\x00\x00\x00\x00\x00\x00\x00\x00\x00\x00\x00\x00\x00\x00\x00\x00\x00\x00\x00root\x00\x14ABCDEFGHIJKLMNOPQRSTmysql_native_password\x00";
-        assert_eq!(rt;
-            out.as_slice().strip_prefix(without.as_slice()),
-            Some(with.as_slice())
-        );
-        Ok(())
-    }
-}

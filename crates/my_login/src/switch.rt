@@ -8,7 +8,7 @@ use result_rows::ShortText;
 
 /// A server's request to answer a new scramble with `mysql_native_password`. (MySQL source
 /// documentation, `Protocol::AuthSwitchRequest`.)
-#[derive(Clone, Copy, Debug)]
+#[derive(Clone, Copy)]
 pub struct Switch {
     /// The bytes that [`native_answer`](crate::native_answer) answers.
     pub scramble: [u8; 20],
@@ -64,61 +64,5 @@ fn new_scramble(bytes: &[u8]) -> Option<[u8; 20]>
     match rest {
         [] | [0] => Some(*scramble),
         _ => None,
-    }
-}
-
-#[cfg(test)]
-mod tests {
-    use super::*;
-
-    #[test]
-    fn reads_a_new_scramble(rt: HostRuntime) {
-        let cases: [(&[u8], bool); 7] = [
-            (
-                b"\xfemysql_native_password\x00ABCDEFGHIJKLMNOPQRST\x00",
-                true,
-            ),
-            (b"\xfemysql_native_password\x00ABCDEFGHIJKLMNOPQRST", true),
-            (b"\xfemysql_native_password\x00ABCDEFGHIJKLMNOPQRS", false),
-            (b"\xfemysql_native_password\x00ABCDEFGHIJKLMNOPQRSTU", false),
-            (
-                b"\xfemysql_native_password\x00ABCDEFGHIJKLMNOPQRST\x00\x00",
-                false,
-            ),
-            (b"\xfemysql_native_password", false),
-            (b"\x00\x00\x00\x02\x00\x00\x00", false),
-        ];
-        for (payload, want) in cases {
-            match Switch::read(payload) {
-                Ok(switch) => {
-                    assert_eq!(rt; switch.scramble, *b"ABCDEFGHIJKLMNOPQRST");
-                    assert!(rt; want, "of {payload:?}");
-                }
-                Err(LoginFault::Garbled) => assert!(rt; !want, "of {payload:?}"),
-                Err(fault) => assert!(rt; false, "{fault} of {payload:?}"),
-            }
-        }
-    }
-
-    fn names(payload: &[u8], plugin: &[u8]) -> bool {
-        match &Switch::read(payload) {
-            Err(LoginFault::PluginUnsupported(name)) => name.as_slice() == plugin,
-            _ => false,
-        }
-    }
-
-    #[test]
-    fn names_another_plugin(rt: HostRuntime) {
-        let cases: [(&[u8], &[u8]); 3] = [
-            (
-                b"\xfecaching_sha2_password\x00ABCDEFGHIJKLMNOPQRST\x00",
-                b"caching_sha2_password",
-            ),
-            (b"\xfesha256_password\x00", b"sha256_password"),
-            (b"\xfe", b"mysql_old_password"),
-        ];
-        for (payload, want) in cases {
-            assert!(rt; names(payload, want), "of {payload:?}");
-        }
     }
 }

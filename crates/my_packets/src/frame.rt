@@ -67,19 +67,3 @@ fn header_of(size: usize, id: u8) -> [u8; 4]
         id,
     ]
 }
-
-#[cfg(test)]
-mod tests {
-    use super::*;
-    use std::test::Fail;
-
-    #[test]
-    fn a_query_is_one_packet(rt: HostRuntime) -> Result<(), Fail> {
-        let mut out = Vec::new(rt.alloc());
-        assert_eq!(rt; frame_into(b"\x03SELECT 1", 0, &mut out)?, 1);
-        assert_eq!(rt; out.as_slice(), b"\x09\0\0\0\x03SELECT 1".as_slice());
-        assert_eq!(rt; header(9, 0), [9, 0, 0, 0]);
-        assert_eq!(rt; header(16_777_214, 255), [0xfe, 0xff, 0xff, 0xff]);
-        Ok(())
-    }
-}

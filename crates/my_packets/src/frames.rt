@@ -29,7 +29,7 @@ pub enum FrameFault {
 }
 
 /// A message of a stream.
-#[derive(Clone, Copy, Debug)]
+#[derive(Clone, Copy)]
 pub struct Message<'a> {
     /// Its bytes, without the headers of its packets.
     pub payload: &'a [u8],
@@ -305,118 +305,5 @@ impl Frames {
             return Ok(Some(self.message()));
         }
         Ok(None)
-    }
-}
-
-#[cfg(test)]
-mod tests {
-    use super::*;
-    use std::process::Abort;
-    use std::test::Fail;
-
-    // The server's answer to a command, an OK packet, behind the command's own packet 0.
-    const OK: [u8; 11] = [7, 0, 0, 1, 0, 0, 0, 2, 0, 0, 0];
-
-    // A reader that awaits packet 1, as of an answer.
-    fn answer(alloc: Global, limit: u32) -> Frames
-        ensures bytes { result.bytes ≡ [] }
-        ensures place { result.place ≡ 0 }
-    {
-        let mut frames = Frames::new(alloc, limit);
-        frames.start(1);
-        frames
-    }
-
-    fn assert_message(
-        rt: &impl Abort,
-        frames: &mut Frames,
-        payload: &[u8],
-        place: u64,
-        next_seq: u8,
-    ) -> Result<(), FrameFault> {
-        let next = frames.next()?;
-        assert!(rt; next.is_some(), "a message at {place}");
-        if let Some(message) = next {
-            assert_eq!(rt; message.payload, payload);
-            assert_eq!(rt; message.place, place);
-            assert_eq!(rt; message.next_seq, next_seq);
-        }
-        Ok(())
-    }
-
-    #[test]
-    fn a_message_comes_with_its_last_byte(rt: HostRuntime) -> Result<(), Fail> {
-        let mut frames = answer(rt.alloc(), 100);
-        let wanted = [4, 3, 2, 1, 7, 6, 5, 4, 3, 2, 1];
-        for fed in 0..OK.len() {
-            assert_eq!(rt; frames.wants(), wanted[fed], "{fed} bytes were fed");
-            assert!(rt; frames.next()?.is_none(), "{fed} bytes were fed");
-            frames.feed(&OK[fed..fed + 1])?;
-        }
-        assert_eq!(rt; frames.wants(), 0);
-        assert_message(&rt, &mut frames, &OK[4..], 0, 2)?;
-        assert_eq!(rt; frames.wants(), 4);
-        Ok(())
-    }
-
-    #[test]
-    fn a_message_may_be_cut_anywhere(rt: HostRuntime) -> Result<(), Fail> {
-        for cut in 1..OK.len() {
-            let mut frames = answer(rt.alloc(), 7);
-            frames.feed(&OK[..cut])?;
-            assert!(rt; frames.next()?.is_none(), "cut at {cut}");
-            frames.feed(&OK[cut..])?;
-            assert_message(&rt, &mut frames, &OK[4..], 0, 2)?;
-            assert!(rt; frames.next()?.is_none(), "cut at {cut}");
-        }
-        Ok(())
-    }
-
-    #[test]
-    fn messages_come_one_after_the_other(rt: HostRuntime) -> Result<(), Fail> {
-        let mut frames = answer(rt.alloc(), 100);
-        frames.feed(&[1, 0, 0, 1, 3, 0, 0, 0, 2, 5, 0])?;
-        assert_message(&rt, &mut frames, &[3], 0, 2)?;
-        assert_message(&rt, &mut frames, &[], 5, 3)?;
-        assert_eq!(rt; frames.wants(), 2);
-        Ok(())
-    }
-
-    // Passes over the messages that are whole, and answers how many they are.
-    fn pass_messages(frames: &mut Frames) -> Result<u64, FrameFault> {
-        for passed in 0..u64::MAX {
-            if frames.next()?.is_none() {
-                return Ok(passed);
-            }
-        }
-        Ok(u64::MAX)
-    }
-
-    #[test]
-    fn a_loop_passes_over_what_is_whole(rt: HostRuntime) -> Result<(), Fail> {
-        let mut frames = answer(rt.alloc(), 100);
-        frames.feed(&[1, 0, 0, 1, 3, 0, 0, 0, 2, 5, 0, 0])?;
-        assert_eq!(rt; pass_messages(&mut frames)?, 2);
-        assert_eq!(rt; frames.wants(), 1);
-        Ok(())
-    }
-
-    #[test]
-    fn a_gap_in_the_ids_is_refused_from_then_on(rt: HostRuntime) -> Result<(), Fail> {
-        let mut frames = answer(rt.alloc(), 100);
-        frames.feed(&[7, 0, 0, 2, 0, 0, 0, 2, 0, 0, 0])?;
-        assert!(rt; matches!(frames.next(), Err(FrameFault::BadSequence(2, 1))));
-        assert!(rt; matches!(frames.next(), Err(FrameFault::BadSequence(2, 1))));
-        frames.feed(&OK)?;
-        assert!(rt; matches!(frames.next(), Err(FrameFault::BadSequence(2, 1))));
-        Ok(())
-    }
-
-    #[test]
-    fn a_message_past_the_limit_is_refused(rt: HostRuntime) -> Result<(), Fail> {
-        let mut frames = answer(rt.alloc(), 5);
-        frames.feed(&[6, 0, 0, 1])?;
-        assert!(rt; matches!(frames.next(), Err(FrameFault::TooLong(6))));
-        Ok(())
     }
 }

@@ -9,8 +9,6 @@ mod frame;
 mod frames;
 mod laws;
 mod lenenc;
-#[cfg(test)]
-mod long_messages;
 mod skim;
 
 pub use frame::{frame_into, header};

@@ -199,36 +199,3 @@ fn read_header(header: &[u8]) -> Announced
         id: *id,
     }
 }
-
-#[cfg(test)]
-mod tests {
-    use super::*;
-    use std::test::Fail;
-
-    const OK: [u8; 11] = [7, 0, 0, 1, 0, 0, 0, 2, 0, 0, 0];
-
-    #[test]
-    fn a_message_may_come_a_byte_at_a_time(rt: HostRuntime) -> Result<(), Fail> {
-        let mut skim = Skim::new(1, 7);
-        let wanted = [4, 3, 2, 1, 7, 6, 5, 4, 3, 2, 1];
-        for fed in 0..OK.len() {
-            let wants = skim.wants();
-            assert_eq!(rt; wants, wanted[fed], "{fed} bytes were fed");
-            assert!(rt; wants > 0);
-            skim.feed(&OK[fed..fed + 1])?;
-        }
-        assert_eq!(rt; skim.wants(), 0);
-        assert_eq!(rt; skim.kept(), &OK[4..]);
-        Ok(())
-    }
-
-    #[test]
-    fn a_wrong_id_is_told_from_then_on(rt: HostRuntime) {
-        let mut skim = Skim::new(1, 7);
-        let gap = Err(FrameFault::BadSequence(2, 1));
-        assert!(rt; skim.wants() == 4);
-        assert!(rt; skim.feed(&[7, 0, 0, 2]) == gap);
-        assert!(rt; skim.wants() == 0);
-        assert!(rt; skim.feed(&[]) == gap);
-    }
-}

@@ -1,5 +1,5 @@
 // Replies, message by message.
-ghost use Rattle.std.specs.Prelude.{◌≡◌, ◌<◌, Some, IsSome};
+ghost use Rattle.std.specs.Prelude.{◌≡◌, ◌<◌, nat_lt, Some, IsSome};
 ghost use Rattle.result_rows.specs.Reply.{reply_of};
 ghost use Rattle.result_rows.specs.Reading.{idle, counted, row_of, further_of, after};
 ghost use Rattle.result_rows.specs.Row.{cells_of};
@@ -14,7 +14,7 @@ use std::marker::Model;
 use thiserror::Error;
 
 /// The first message of a reply to a query. (MySQL source documentation, `COM_QUERY Response`.)
-#[derive(Clone, Copy, Debug)]
+#[derive(Clone, Copy)]
 pub enum Reply {
     /// An OK: the reply ends here.
     Done,
@@ -104,9 +104,17 @@ impl RowReader {
         }
     }
 
-    /// Reads a further message of a result set. The condition is that one is pending. `Garbled`
-    /// exactly where it is none of those that may follow, and then the reader stays as it was. Behind
-    /// `End` and `Refused` nothing is pending. Takes no memory.
+    /// Whether messages of a result set are pending. Takes no memory.
+    #[inline]
+    pub fn is_pending(&self) -> bool
+        ensures { result ≡ nat_lt 0 self.now.columns }
+    {
+        0 < self.columns
+    }
+
+    /// Reads a further message of a result set. The condition is that one is pending
+    /// ([`RowReader::is_pending`]). `Garbled` exactly where it is none of those that may follow, and
+    /// then the reader stays as it was. Behind `End` and `Refused` nothing is pending. Takes no memory.
     #[inline]
     pub fn more<'a>(&mut self, message: Message<'a>) -> Result<Turn<'a>, ReplyFault>
         requires pending { 0 < self.old.columns }
@@ -167,129 +175,6 @@ impl RowReader {
                 Some(row) => Ok(Turn::Row(row)),
                 None => Err(ReplyFault::Garbled),
             },
-        }
-    }
-}
-
-#[cfg(test)]
-mod tests {
-    use super::*;
-
-    // The definition of the column `id` of the table `t` of the schema `s`.
-    const ID: &[u8] =
-        b"\x03def\x01s\x01t\x01t\x02id\x02id\x0c\x3f\x00\x0b\x00\x00\x00\x03\x03\x00\x00\x00\x00";
-
-    const EOF: &[u8] = b"\xfe\x00\x00\x02\x00";
-
-    fn message(payload: &[u8]) -> Message<'_>
-        ensures { result.payload.now ≡ payload.now }
-    {
-        Message {
-            payload,
-            place: 40,
-            next_seq: 2,
-        }
-    }
-
-    fn kind(turn: &Result<Turn<'_>, ReplyFault>) -> &'static str {
-        match turn {
-            Ok(Turn::Definition) => "definition",
-            Ok(Turn::Row(_)) => "row",
-            Ok(Turn::End) => "end",
-            Ok(Turn::Refused(_)) => "refused",
-            Err(ReplyFault::Garbled) => "garbled",
-            Err(ReplyFault::LocalInfile) => "local infile",
-        }
-    }
-
-    #[test]
-    fn reads_a_result_set_to_its_end(rt: HostRuntime) {
-        let mut reader = RowReader::new();
-        assert!(rt; matches!(reader.first(b"\x01"), Ok(Reply::Columns(1))));
-        assert_eq!(rt; kind(&reader.more(message(ID))), "definition");
-        assert_eq!(rt; kind(&reader.more(message(EOF))), "definition");
-        match reader.more(message(b"\x013")) {
-            Ok(Turn::Row(row)) => {
-                assert_eq!(rt; row.columns(), 1);
-                assert_eq!(rt; row.cell(0), Some(&b"3"[..]));
-                assert_eq!(rt; row.place(), 40);
-            }
-            other => assert_eq!(rt; kind(&other), "row"),
-        }
-        assert_eq!(rt; kind(&reader.more(message(EOF))), "end");
-    }
-
-    #[test]
-    fn reads_first_messages(rt: HostRuntime) {
-        let cases: [(&[u8], &str); 12] = [
-            (b"\x00\x00\x00\x02\x00\x00\x00", "done"),
-            (b"\x00\x00\x00\x02\x00\x00", "garbled"),
-            (b"\x00", "garbled"),
-            (b"\xff\x7a\x04#42S02", "refused"),
-            (b"\xff\x7a", "garbled"),
-            (b"\x01", "columns"),
-            (b"\xfc\xff\xff", "columns"),
-            (b"\xfc\x00\x00", "garbled"),
-            (b"\xfd\x00\x00\x01", "garbled"),
-            (b"\x01\x00", "garbled"),
-            (b"\xfb/etc/passwd", "local infile"),
-            (b"", "garbled"),
-        ];
-        for (payload, want) in cases {
-            let found = match RowReader::new().first(payload) {
-                Ok(Reply::Done) => "done",
-                Ok(Reply::Refused(_)) => "refused",
-                Ok(Reply::Columns(_)) => "columns",
-                Err(ReplyFault::Garbled) => "garbled",
-                Err(ReplyFault::LocalInfile) => "local infile",
-            };
-            assert_eq!(rt; found, want, "of {payload:?}");
-        }
-    }
-
-    #[test]
-    fn reads_further_messages(rt: HostRuntime) {
-        let cases: [(u32, &[u8], &str); 17] = [
-            (2, ID, "definition"),
-            (
-                2,
-                b"\x03def\x01s\x01t\x01t\x02id\x02id\x0d\x3f\x00\x0b\x00\x00\x00\x03\x03\x00\x00\x00\x00",
-                "garbled",
-            ),
-            (
-                2,
-                b"\x03def\x01s\x01t\x01t\x02id\x02id\x0c\x3f\x00\x0b\x00\x00\x00\x03\x03\x00\x00\x00",
-                "garbled",
-            ),
-            (
-                2,
-                b"\x03def\x01s\x01t\x01t\x02id\x02id\x0c\x3f\x00\x0b\x00\x00\x00\x03\x03\x00\x00\x00\x00\x00",
-                "garbled",
-            ),
-            (2, EOF, "garbled"),
-            (1, EOF, "definition"),
-            (1, ID, "garbled"),
-            (0, b"\x013", "row"),
-            (0, EOF, "end"),
-            (0, b"\xfe\x00\x00\x02\x00\x00", "end"),
-            (0, b"\xfe\x00\x00\x02\x00\x00\x00\x00", "end"),
-            (0, b"\xfe\x00\x00\x00\x00\x00\x00\x00\x00", "row"),
-            (0, b"\xfe\x00\x00\x02", "garbled"),
-            (0, b"\xff\x7a\x04#42S02", "refused"),
-            (0, b"\xff\x7a", "garbled"),
-            (0, b"\x013\x00", "garbled"),
-            (0, b"", "garbled"),
-        ];
-        for (awaited, payload, want) in cases {
-            let mut reader = RowReader {
-                columns: 1,
-                awaited,
-            };
-            assert_eq!(rt;
-                kind(&reader.more(message(payload))),
-                want,
-                "of {payload:?}"
-            );
         }
     }
 }

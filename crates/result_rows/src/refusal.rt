@@ -49,39 +49,3 @@ fn said(code: u16, bytes: &[u8]) -> Option<Refusal>
         }),
     }
 }
-
-#[cfg(test)]
-mod tests {
-    use super::*;
-
-    #[test]
-    fn reads_code_state_and_message(rt: HostRuntime) {
-        let cases: [(&[u8], Option<(u16, &[u8], &[u8])>); 7] = [
-            (b"\xff\x7a\x04#42S02", Some((1146, b"42S02", b""))),
-            (b"\xff\x7a\x04#42S02No", Some((1146, b"42S02", b"No"))),
-            (b"\xff\x10\x04Too many", Some((1040, b"HY000", b"Too many"))),
-            (b"\xff\x10\x04", Some((1040, b"HY000", b""))),
-            (b"\xff\x7a", None),
-            (b"\xff\x7a\x04#42S0", None),
-            (b"\x00\x7a\x04#42S02", None),
-        ];
-        for (payload, want) in cases {
-            match (Refusal::read(payload), want) {
-                (Some(refusal), Some((code, state, message))) => {
-                    assert_eq!(rt; refusal.code, code, "of {payload:?}");
-                    assert_eq!(rt; &refusal.state[..], state, "of {payload:?}");
-                    assert_eq!(rt; refusal.message.as_slice(), message, "of {payload:?}");
-                }
-                (found, want) => assert_eq!(rt; found.is_some(), want.is_some(), "of {payload:?}"),
-            }
-        }
-    }
-
-    #[test]
-    fn keeps_512_bytes_of_a_message(rt: HostRuntime) {
-        let mut payload = [b'x'; 603];
-        payload[0] = 0xff;
-        let refusal = Refusal::read(&payload).unwrap();
-        assert_eq!(rt; refusal.message.as_slice(), &payload[3..515]);
-    }
-}

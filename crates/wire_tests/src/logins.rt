@@ -1,0 +1,79 @@
+// The messages of a login.
+use crate::words::{
+    add_bytes, add_text, bytes_of, first_and_rest, hex_of, refusal_words, text_of, words_of,
+};
+use my_login::{Greeting, LoginFault, Switch, native_answer, response_into};
+use plain_data::OutOfMemory;
+use std::alloc::Global;
+
+pub fn answer(alloc: Global, call: &str, words: &str) -> Result<String, OutOfMemory> {
+    match call {
+        "greeting" => greeting(alloc, words),
+        "native_answer" => answer_to(alloc, words),
+        "response" => response(alloc, words),
+        "switch" => switch(alloc, words),
+        _ => text_of(alloc, "no such call"),
+    }
+}
+
+fn greeting(alloc: Global, words: &str) -> Result<String, OutOfMemory> {
+    match Greeting::read(&bytes_of(alloc, words)?) {
+        Ok(greeting) => greeting_words(alloc, &greeting),
+        Err(fault) => fault_words(alloc, &fault),
+    }
+}
+
+fn greeting_words(alloc: Global, greeting: &Greeting) -> Result<String, OutOfMemory> {
+    let mut words = text_of(alloc, "version ")?;
+    add_bytes(&mut words, greeting.version.as_slice())?;
+    add_text(&mut words, ", scramble ")?;
+    add_bytes(&mut words, &greeting.scramble)?;
+    add_text(&mut words, ", plugin ")?;
+    add_bytes(&mut words, greeting.plugin.as_slice())?;
+    Ok(words)
+}
+
+fn fault_words(alloc: Global, fault: &LoginFault) -> Result<String, OutOfMemory> {
+    match fault {
+        LoginFault::NotProtocol10(version) => Ok(format!(in alloc; "protocol version {version}")?),
+        LoginFault::PluginUnsupported(plugin) => words_behind(alloc, "plugin ", plugin.as_slice()),
+        LoginFault::Refused(refusal) => refusal_words(alloc, refusal),
+        LoginFault::Garbled => text_of(alloc, "garbled"),
+    }
+}
+
+fn words_behind(alloc: Global, front: &str, bytes: &[u8]) -> Result<String, OutOfMemory> {
+    let mut words = text_of(alloc, front)?;
+    add_bytes(&mut words, bytes)?;
+    Ok(words)
+}
+
+fn switch(alloc: Global, words: &str) -> Result<String, OutOfMemory> {
+    match Switch::read(&bytes_of(alloc, words)?) {
+        Ok(switch) => words_behind(alloc, "scramble ", &switch.scramble),
+        Err(fault) => fault_words(alloc, &fault),
+    }
+}
+
+// `native_answer PASSWORD SCRAMBLE`.
+fn answer_to(alloc: Global, words: &str) -> Result<String, OutOfMemory> {
+    let (password, scramble) = first_and_rest(words);
+    let password = bytes_of(alloc, password)?;
+    let scramble = bytes_of(alloc, scramble)?;
+    match scramble.first_chunk::<20>() {
+        Some(scramble) => hex_of(alloc, &native_answer(&password, scramble)),
+        None => text_of(alloc, "a scramble has twenty bytes"),
+    }
+}
+
+// `response USER ANSWER`, or `response USER` without a password. The call appends, so a `>` stands before
+// what it writes.
+fn response(alloc: Global, words: &str) -> Result<String, OutOfMemory> {
+    let (user, answer) = first_and_rest(words);
+    let user = bytes_of(alloc, user)?;
+    let answer = bytes_of(alloc, answer)?;
+    let mut out = Vec::new(alloc);
+    out.push(b'>')?;
+    response_into(&user, answer.first_chunk::<20>(), &mut out)?;
+    words_of(alloc, &out)
+}

@@ -1,0 +1,112 @@
+// Replies, message by message.
+use crate::words::{add_bytes, add_text, bytes_of, limit_and_rest, refusal_words, text_of};
+use my_packets::Message;
+use plain_data::OutOfMemory;
+use result_rows::{Refusal, Reply, ReplyFault, Row, RowReader, Turn, is_ok_packet};
+use std::alloc::Global;
+
+pub fn answer(
+    alloc: Global,
+    reader: &mut RowReader,
+    call: &str,
+    words: &str,
+) -> Result<String, OutOfMemory> {
+    let payload = bytes_of(alloc, words)?;
+    match call {
+        "first" => reply_words(alloc, reader.first(&payload)),
+        "more" => more(alloc, reader, &payload),
+        "refusal" => read_refusal(alloc, &payload),
+        "long_refusal" => long_refusal(alloc, words),
+        "is_ok_packet" => Ok(format!(in alloc; "{}", is_ok_packet(&payload))?),
+        _ => text_of(alloc, "no such call"),
+    }
+}
+
+// A further message, which began at place 40.
+fn more(alloc: Global, reader: &mut RowReader, payload: &[u8]) -> Result<String, OutOfMemory> {
+    if !reader.is_pending() {
+        return text_of(alloc, "nothing is pending");
+    }
+    let message = Message {
+        payload,
+        place: 40,
+        next_seq: 2,
+    };
+    match reader.more(message) {
+        Ok(turn) => turn_words(alloc, turn),
+        Err(fault) => fault_words(alloc, fault),
+    }
+}
+
+fn reply_words(alloc: Global, reply: Result<Reply, ReplyFault>) -> Result<String, OutOfMemory> {
+    match reply {
+        Ok(Reply::Done) => text_of(alloc, "done"),
+        Ok(Reply::Refused(refusal)) => refusal_words(alloc, &refusal),
+        Ok(Reply::Columns(count)) => Ok(format!(in alloc; "{count} columns")?),
+        Err(fault) => fault_words(alloc, fault),
+    }
+}
+
+fn fault_words(alloc: Global, fault: ReplyFault) -> Result<String, OutOfMemory> {
+    Ok(format!(in alloc; "{fault}")?)
+}
+
+fn turn_words(alloc: Global, turn: Turn<'_>) -> Result<String, OutOfMemory> {
+    match turn {
+        Turn::Definition => text_of(alloc, "definition"),
+        Turn::Row(row) => row_words(alloc, row),
+        Turn::End => text_of(alloc, "end"),
+        Turn::Refused(refusal) => refusal_words(alloc, &refusal),
+    }
+}
+
+fn read_refusal(alloc: Global, payload: &[u8]) -> Result<String, OutOfMemory> {
+    match Refusal::read(payload) {
+        Some(refusal) => refusal_words(alloc, &refusal),
+        None => text_of(alloc, "none"),
+    }
+}
+
+fn row_words(alloc: Global, row: Row<'_>) -> Result<String, OutOfMemory> {
+    let mut words = format!(in alloc; "row of {} at {}:", row.columns(), row.place())?;
+    for cell in row.cells() {
+        add_cell(&mut words, cell)?;
+    }
+    if row.columns() > 0 {
+        add_text(&mut words, ", the last is")?;
+        add_cell(&mut words, row.cell(row.columns() - 1))?;
+    }
+    Ok(words)
+}
+
+fn add_cell(words: &mut String, cell: Option<&[u8]>) -> Result<(), OutOfMemory> {
+    match cell {
+        Some(bytes) => {
+            add_text(words, " '")?;
+            add_bytes(words, bytes)?;
+            add_text(words, "'")
+        }
+        None => add_text(words, " NULL"),
+    }
+}
+
+// `long_refusal SIZE`: how much is kept of a message of so many bytes.
+fn long_refusal(alloc: Global, words: &str) -> Result<String, OutOfMemory> {
+    let (size, _) = limit_and_rest(words);
+    let mut payload = Vec::new(alloc);
+    payload.extend_from_slice(b"\xff\x78\x78")?;
+    for i in 0..size {
+        payload.push((i % 251) as u8)?;
+    }
+    match Refusal::read(&payload) {
+        Some(refusal) => kept_words(alloc, &payload[3..], refusal.message.as_slice()),
+        None => text_of(alloc, "none"),
+    }
+}
+
+fn kept_words(alloc: Global, message: &[u8], kept: &[u8]) -> Result<String, OutOfMemory> {
+    if !message.starts_with(kept) {
+        return text_of(alloc, "other bytes are kept");
+    }
+    Ok(format!(in alloc; "the first {} are kept", kept.len())?)
+}
