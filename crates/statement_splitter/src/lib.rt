@@ -13,8 +13,6 @@ mod place;
 mod runs;
 mod scan;
 mod splitter;
-#[cfg(test)]
-mod tests;
 mod within;
 
 pub use laws::{a_given_piece_is_the_first, files_are_divided_so, none_is_lost, too_long_stays_so};

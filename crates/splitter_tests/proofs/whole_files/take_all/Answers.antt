@@ -1,7 +1,7 @@
 use Rattle.std.proofs.Common.{◌++◌, arith, ap, ◌∙◌, ◌∷◌, []}
 use Rattle.statement_splitter.specs.Splits.{piece_of}
 use Rattle.statement_splitter.proofs.Wholes.{gives_smaller, written_more, written_all}
-use Rattle.statement_splitter.proofs.tests.take_all.Goals as goal
+use Rattle.splitter_tests.proofs.whole_files.take_all.Goals as goal
 
 pub pieces-smaller : goal.pieces-smaller
 pieces-smaller c =

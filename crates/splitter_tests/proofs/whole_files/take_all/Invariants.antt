@@ -1,7 +1,7 @@
 use Rattle.std.proofs.Common.{◌≡◌, ◌+◌, List, ℕ, ◌++◌, length}
 use Rattle.statement_splitter.specs.Pieces.{with_more, pieces}
 use Rattle.statement_splitter.specs.Laws.{written}
-use Rattle.statement_splitter.proofs.tests.take_all.Given as goal
+use Rattle.splitter_tests.proofs.whole_files.take_all.Given as goal
 
 abbrev pub invariant-pieces : goal.invariant-pieces
 invariant-pieces l = record {

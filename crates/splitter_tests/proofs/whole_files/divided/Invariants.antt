@@ -1,7 +1,7 @@
 use Rattle.std.proofs.Common.{◌≡◌, ◌+◌, ◌-◌, ◌≤◌, List, [], ℕ, ◌++◌, length, take}
 use Rattle.statement_splitter.specs.Pieces.{with_more, pieces, unread_file}
 use Rattle.statement_splitter.specs.Laws.{written}
-use Rattle.statement_splitter.proofs.tests.divided.Given as goal
+use Rattle.splitter_tests.proofs.whole_files.divided.Given as goal
 
 abbrev pub invariant-cuts : goal.invariant-cuts
 invariant-cuts l = record {

@@ -2,7 +2,7 @@ use Rattle.std.proofs.Common.{◌≡◌, ◌+◌, ◌-◌, ap, arith, refl, take
 use Rattle.std.proofs.lemmas.List.{length-take-le}
 use Rattle.statement_splitter.specs.Splits.{Split}
 use Rattle.statement_splitter.proofs.Wholes.{nothing_written, written_on, fed_even, all_written}
-use Rattle.statement_splitter.proofs.tests.divided.Goals as goal
+use Rattle.splitter_tests.proofs.whole_files.divided.Goals as goal
 
 pub cuts-init : goal.cuts-init
 cuts-init c =
