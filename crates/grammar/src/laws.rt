@@ -27,24 +27,3 @@ pub fn one_longest<L: HasTexts>()
 pub fn one_reading<L: HasTexts>()
     ensures { (bytes : List ℕ) (r q : Result ℕ ℕ) → Reads L.texts bytes r → Reads L.texts bytes q → r ≡ q }
 {}
-
-#[cfg(test)]
-mod tests {
-    use super::*;
-
-    struct Commas;
-
-    impl HasTexts for Commas {
-        ghost use Rattle.std.specs.Prelude.{[], ◌∷◌};
-        ghost use Rattle.grammar.specs.Language.{Fixed, Many};
-
-        ghost texts = { Many (Fixed (44 ∷ [])) };
-    }
-
-    #[test]
-    fn the_laws_hold_of_a_language() {
-        one_place::<Commas>();
-        one_longest::<Commas>();
-        one_reading::<Commas>();
-    }
-}

@@ -1,0 +1,5 @@
+use Rattle.std.proofs.Common.{refl}
+use Rattle.wire_examples.proofs.logins.responses.Goals as goal
+
+pub returns : goal.returns
+returns c = record { without = refl; with_answer = refl }

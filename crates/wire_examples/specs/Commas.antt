@@ -1,0 +1,6 @@
+-- A language of commas.
+use Rattle.std.specs.Prelude.{[], ◌∷◌}
+use Rattle.grammar.specs.Language.{Language, Many, Fixed}
+
+abbrev pub commas : Language
+commas = Many (Fixed (44 ∷ []))

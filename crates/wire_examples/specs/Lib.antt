@@ -1,0 +1,4 @@
+pub mod Commas
+pub mod Logins
+pub mod Packets
+pub mod Replies

@@ -1,0 +1,63 @@
+-- Messages of logins (MySQL source documentation, Protocol::HandshakeV10, Protocol::HandshakeResponse41, Protocol::AuthSwitchRequest).
+use Rattle.std.specs.Prelude.{ℕ, ◌≡◌, List, [], ◌∷◌, ◌++◌, Some, None, Ok, Err, codes}
+use Rattle.result_rows.specs.KeptText.{kept_text}
+use Rattle.my_login.specs.Greeting.{greeting_of}
+use Rattle.my_login.specs.Response.{response}
+use Rattle.my_login.specs.Switch.{switch_of}
+use Rattle.my_login.specs.declared.fault.LoginFault.TheVariants.{NotProtocol10, PluginUnsupported, Refused, Garbled}
+
+abbrev pub zero_byte : List ℕ
+zero_byte = 0 ∷ []
+
+-- a greeting up to its capabilities' low half: protocol 10, the version, connection 8, and the scramble's first part
+abbrev pub greeting_front : List ℕ
+greeting_front = 10 ∷ codes "8.0.35" ++ 0 ∷ 8 ∷ 0 ∷ 0 ∷ 0 ∷ codes "abcdefgh" ++ zero_byte
+
+-- what stands from the scramble's length on, up to the plugin
+abbrev pub greeting_end : List ℕ
+greeting_end = 21 ∷ 0 ∷ 0 ∷ 0 ∷ 0 ∷ 0 ∷ 0 ∷ 0 ∷ 0 ∷ 0 ∷ 0 ∷ codes "ijklmnopqrst" ++ zero_byte
+
+-- capabilities 0xdfffffff with plugins, 0xdff7ffff without, 0xdfff7fff without a scramble of twenty bytes; between them stand the character
+-- set and the status
+abbrev pub greeting : List ℕ
+greeting = greeting_front ++ 255 ∷ 255 ∷ 255 ∷ 2 ∷ 0 ∷ 255 ∷ 223 ∷ greeting_end
+
+abbrev pub plain_greeting : List ℕ
+plain_greeting = greeting_front ++ 255 ∷ 255 ∷ 255 ∷ 2 ∷ 0 ∷ 247 ∷ 223 ∷ greeting_end
+
+abbrev pub old_greeting : List ℕ
+old_greeting = greeting_front ++ 255 ∷ 127 ∷ 255 ∷ 2 ∷ 0 ∷ 255 ∷ 223 ∷ greeting_end
+
+-- What a server's first messages say.
+pub record Greetings : Type 0 where
+  pub of_mysql : greeting_of (greeting ++ codes "caching_sha2_password" ++ zero_byte) ≡ Ok (record { version = kept_text (codes "8.0.35"); scramble = codes "abcdefghijklmnopqrst"; plugin = kept_text (codes "caching_sha2_password") })
+  pub without_plugins : greeting_of plain_greeting ≡ Ok (record { version = kept_text (codes "8.0.35"); scramble = codes "abcdefghijklmnopqrst"; plugin = kept_text (codes "mysql_native_password") })
+  pub no_plugin_named : greeting_of greeting ≡ Err Garbled
+  pub byte_behind_plugin : greeting_of (greeting ++ codes "caching_sha2_password" ++ 0 ∷ codes "x") ≡ Err Garbled
+  pub short_scrambles : greeting_of (old_greeting ++ codes "caching_sha2_password" ++ zero_byte) ≡ Err Garbled
+  pub no_end_of_version : greeting_of (10 ∷ codes "8.0.35") ≡ Err Garbled
+  pub other_protocol : greeting_of (9 ∷ codes "8.0.35" ++ zero_byte) ≡ Err (NotProtocol10 9)
+  pub err : greeting_of (255 ∷ 16 ∷ 4 ∷ codes "Too many connections") ≡ Err (Refused (record { code = 1040; state = codes "HY000"; message = kept_text (codes "Too many connections") }))
+  pub short_err : greeting_of (255 ∷ 16 ∷ []) ≡ Err Garbled
+  pub nothing : greeting_of [] ≡ Err Garbled
+
+-- capabilities 0x0008a205, packets of up to 64 MiB, character set 45, and 23 zeros
+abbrev pub before_user : List ℕ
+before_user = 5 ∷ 162 ∷ 8 ∷ 0 ∷ 0 ∷ 0 ∷ 0 ∷ 4 ∷ 45 ∷ 0 ∷ 0 ∷ 0 ∷ 0 ∷ 0 ∷ 0 ∷ 0 ∷ 0 ∷ 0 ∷ 0 ∷ 0 ∷ 0 ∷ 0 ∷ 0 ∷ 0 ∷ 0 ∷ 0 ∷ 0 ∷ 0 ∷ 0 ∷ 0 ∷ 0 ∷ 0 ∷ []
+
+-- A user without a password, and one with an answer of twenty bytes.
+pub record Responses : Type 0 where
+  pub without : response (codes "u") None ≡ before_user ++ codes "u" ++ 0 ∷ 0 ∷ codes "mysql_native_password" ++ zero_byte
+  pub with_answer : response (codes "root") (Some (codes "ABCDEFGHIJKLMNOPQRST")) ≡ before_user ++ codes "root" ++ 0 ∷ 20 ∷ codes "ABCDEFGHIJKLMNOPQRSTmysql_native_password" ++ zero_byte
+
+-- What requests for another plugin say.
+pub record RequestsForAPlugin : Type 0 where
+  pub native : switch_of (254 ∷ codes "mysql_native_password" ++ 0 ∷ codes "ABCDEFGHIJKLMNOPQRST" ++ zero_byte) ≡ Ok (record { scramble = codes "ABCDEFGHIJKLMNOPQRST" })
+  pub no_zero_behind : switch_of (254 ∷ codes "mysql_native_password" ++ 0 ∷ codes "ABCDEFGHIJKLMNOPQRST") ≡ Ok (record { scramble = codes "ABCDEFGHIJKLMNOPQRST" })
+  pub byte_too_few : switch_of (254 ∷ codes "mysql_native_password" ++ 0 ∷ codes "ABCDEFGHIJKLMNOPQRS") ≡ Err Garbled
+  pub byte_too_many : switch_of (254 ∷ codes "mysql_native_password" ++ 0 ∷ codes "ABCDEFGHIJKLMNOPQRSTU") ≡ Err Garbled
+  pub two_zeros : switch_of (254 ∷ codes "mysql_native_password" ++ 0 ∷ codes "ABCDEFGHIJKLMNOPQRST" ++ 0 ∷ zero_byte) ≡ Err Garbled
+  pub no_end_of_name : switch_of (254 ∷ codes "mysql_native_password") ≡ Err Garbled
+  pub other_plugin : switch_of (254 ∷ codes "sha256_password" ++ zero_byte) ≡ Err (PluginUnsupported (kept_text (codes "sha256_password")))
+  pub oldest_plugin : switch_of (254 ∷ []) ≡ Err (PluginUnsupported (kept_text (codes "mysql_old_password")))
+  pub an_ok : switch_of (0 ∷ 0 ∷ 0 ∷ 2 ∷ 0 ∷ 0 ∷ 0 ∷ []) ≡ Err Garbled

@@ -1,0 +1,13 @@
+//! Worked examples of the definitions of the wire, as laws: what bytes of the protocol's documents say,
+//! and what is written for them. Nothing here runs; the contract of each function is its examples.
+#![tactic(auto)]
+
+mod commas;
+mod logins;
+mod packets;
+mod replies;
+
+pub use commas::{Commas, commas_are_of_one_place};
+pub use logins::{greetings, requests_for_a_plugin, responses};
+pub use packets::{numbers, packets_of_a_query};
+pub use replies::{first_messages, further_messages};
