@@ -59,33 +59,3 @@ pub fn check_head(text: &[u8]) -> Result<(), usize>
         Some(place) => Err(text.len() - rest.len() + place),
     }
 }
-
-#[cfg(test)]
-mod tests {
-    use super::*;
-
-    #[test]
-    fn places(rt: HostRuntime) {
-        let cases: [(&[u8], Result<(), usize>); 16] = [
-            (b"CREATE TABLE `t` (", Ok(())),
-            (b"create table /* of */ t", Ok(())),
-            (b"", Err(0)),
-            (b"CROPS", Err(2)),
-            (b"CREA", Err(4)),
-            (b"CREATES TABLE `t`", Err(6)),
-            (b"CREATE USER `u`@`%`", Err(19)),
-            (b"CREATE DEFINER='table", Err(21)),
-            (b"CREATE TABLE", Err(12)),
-            (b"CREATE TABLE /* `t`", Err(19)),
-            (b"CREATE TABLE `t", Err(15)),
-            (b"CREATE TABLE 't'", Err(13)),
-            (b"CREATE TABLE \"t", Err(13)),
-            (b"CREATE VIEW (`v`)", Err(12)),
-            (b"CREATE VIEW /", Err(13)),
-            (b"CREATE VIEW /v/", Err(13)),
-        ];
-        for (text, expected) in cases {
-            assert!(rt; check_head(text) == expected, "of {text:?}");
-        }
-    }
-}

@@ -110,30 +110,3 @@ impl Buffer {
         self.store.len() - self.cursor
     }
 }
-
-#[cfg(test)]
-mod tests {
-    use super::*;
-    use std::test::Fail;
-
-    #[test]
-    fn room_is_used_up_and_given_back(rt: HostRuntime) -> Result<(), Fail> {
-        let mut buffer = Buffer::new(rt.alloc());
-        assert_eq!(rt; buffer.spare(), 0);
-        buffer.reserve(5)?;
-        let room = buffer.spare();
-        assert!(rt; room >= 5);
-        buffer.push(b"row");
-        buffer.push_byte(b';');
-        assert_eq!(rt; buffer.as_slice(), b"row;".as_slice());
-        assert_eq!(rt; (buffer.len(), buffer.spare() + 4), (4, room));
-        buffer.reserve(1000)?;
-        assert_eq!(rt; buffer.as_slice(), b"row;".as_slice());
-        let room = buffer.spare();
-        assert!(rt; room >= 1000);
-        buffer.clear();
-        assert_eq!(rt; (buffer.len(), buffer.spare()), (0, room + 4));
-        assert!(rt; buffer.reserve(usize::MAX).is_err());
-        Ok(())
-    }
-}

@@ -174,37 +174,3 @@ pub type NameList = PlainList<Name>;
 
 /// A list of numbers below 2^64.
 pub type NumberList = PlainList<u64>;
-
-#[cfg(test)]
-mod tests {
-    use super::*;
-    use std::test::Fail;
-
-    #[test]
-    fn names_sort_by_their_bytes(rt: HostRuntime) -> Result<(), Fail> {
-        let mut names = Vec::new(rt.alloc());
-        for text in ["b", "é", "ab", "", "Z", "a"] {
-            names.push(Name::of(rt.alloc(), text)?)?;
-        }
-        names.sort()?;
-        let mut sorted = Vec::new(rt.alloc());
-        for name in &names {
-            sorted.push(name.as_str())?;
-        }
-        assert_eq!(rt;
-            sorted.as_slice(),
-            ["", "Z", "a", "ab", "b", "é"].as_slice()
-        );
-        Ok(())
-    }
-
-    #[test]
-    fn copies_are_equal(rt: HostRuntime) -> Result<(), Fail> {
-        let bytes = Bytes::of(rt.alloc(), b"\x00\xff")?;
-        assert_eq!(rt; bytes.duplicate()?.as_slice(), b"\x00\xff".as_slice());
-        let name = Name::of(rt.alloc(), "t")?;
-        assert!(rt; name.duplicate()? == name);
-        assert_eq!(rt; name.as_slice(), b"t".as_slice());
-        Ok(())
-    }
-}

@@ -62,30 +62,3 @@ pub fn unescape(alloc: Global, inner: &[u8]) -> Result<Bytes, OutOfMemory>
         done = to + size;
     }
 }
-
-#[cfg(test)]
-mod tests {
-    use super::*;
-    use std::test::Fail;
-
-    // The letters of table 11.1 "Special Character Escape Sequences".
-    #[test]
-    fn two_bytes_stand_for_one(rt: HostRuntime) -> Result<(), Fail> {
-        for (inner, expected) in [
-            (
-                br#"\0\b\n\r\Z\"\'\\"#.as_slice(),
-                b"\x00\x08\x0a\x0d\x1a\x22\x27\x5c".as_slice(),
-            ),
-            (b"a''b".as_slice(), b"a'b".as_slice()),
-            (b"\"\n\x00".as_slice(), b"\"\n\x00".as_slice()),
-            (
-                br"a long run of plain bytes\nand another one".as_slice(),
-                b"a long run of plain bytes\nand another one".as_slice(),
-            ),
-            (b"".as_slice(), b"".as_slice()),
-        ] {
-            assert_eq!(rt; unescape(rt.alloc(), inner)?.as_slice(), expected);
-        }
-        Ok(())
-    }
-}

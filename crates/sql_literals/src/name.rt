@@ -54,24 +54,3 @@ pub fn name_into(name: &[u8], out: &mut Buffer) -> Result<(), OutOfMemory>
     out.push_byte(b'`');
     Ok(())
 }
-
-#[cfg(test)]
-mod tests {
-    use super::*;
-    use std::test::Fail;
-
-    #[test]
-    fn backquotes_are_doubled(rt: HostRuntime) -> Result<(), Fail> {
-        let mut out = Buffer::new(rt.alloc());
-        for (name, expected) in [
-            (b"a`b".as_slice(), b"`a``b`".as_slice()),
-            (b"t".as_slice(), b"`t`".as_slice()),
-            (b"``".as_slice(), b"``````".as_slice()),
-        ] {
-            out.clear();
-            name_into(name, &mut out)?;
-            assert_eq!(rt; out.as_slice(), expected);
-        }
-        Ok(())
-    }
-}

@@ -56,18 +56,3 @@ pub(crate) fn is_number(bytes: &[u8]) -> bool
         _ => is_unsigned(bytes),
     }
 }
-
-#[cfg(test)]
-mod tests {
-    use super::*;
-
-    #[test]
-    fn numbers_have_no_exponent_and_no_bare_point(rt: HostRuntime) {
-        for text in ["0", "-1", "12.50", "-0.0", "00"] {
-            assert!(rt; is_number(text.as_bytes()), "{text}");
-        }
-        for text in ["", "-", "1.", ".5", "1e3", "+1", " 1", "1 ", "--1", "1.2.3"] {
-            assert!(rt; !is_number(text.as_bytes()), "{text}");
-        }
-    }
-}

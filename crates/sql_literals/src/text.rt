@@ -93,23 +93,3 @@ pub(crate) fn text_into(bytes: &[u8], out: &mut Buffer) -> Result<(), OutOfMemor
     out.push_byte(b'\'');
     Ok(())
 }
-
-#[cfg(test)]
-mod tests {
-    use super::*;
-    use std::test::Fail;
-
-    // Special bytes at 0, 15, 16, 17, 31, 32 and at the end, 101.
-    #[test]
-    fn a_long_text_is_escaped_throughout(rt: HostRuntime) -> Result<(), Fail> {
-        let text =
-            b"'bcdefghijklmno\\\x00\"stuvwxyzabcde\n\rhijklmnopqrstuvwxyzABCDEFGHIJKLMNOPQRSTUVWXYZ0123456789abcdefghijklm\x1a";
-        let literal =
-            br#"'\'bcdefghijklmno\\\0\"stuvwxyzabcde\n\rhijklmnopqrstuvwxyzABCDEFGHIJKLMNOPQRSTUVWXYZ0123456789abcdefghijklm\Z'"#;
-        let mut out = Buffer::new(rt.alloc());
-        text_into(text, &mut out)?;
-        assert_eq!(rt; out.as_slice(), literal.as_slice());
-        assert_eq!(rt; text_length(text), literal.len());
-        Ok(())
-    }
-}

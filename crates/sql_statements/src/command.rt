@@ -5,7 +5,7 @@ use crate::form::Form;
 use crate::part::{Part, WholeText};
 
 /// A statement that is answered by OK or ERR, one variant for each text.
-#[derive(Debug, Drop)]
+#[derive(Drop)]
 pub enum Command<'a> {
     /// The statement that sets a session up: `SET SESSION autocommit=1,sql_mode=..`.
     SetUp,

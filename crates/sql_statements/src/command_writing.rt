@@ -8,9 +8,6 @@ use crate::piece::Piece::{Name, Text, Whole, Word};
 use crate::piece::pieces_into;
 use sql_literals::{Buffer, OutOfMemory};
 
-#[cfg(test)]
-mod tests;
-
 /// Appends the text of a command. It is refused only for want of memory, and leaves the buffer as
 /// it was then. Where the room is there it takes no memory.
 pub fn command_into(command: &Command<'_>, out: &mut Buffer) -> Result<(), OutOfMemory>

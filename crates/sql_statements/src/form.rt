@@ -48,29 +48,3 @@ impl Form {
         }
     }
 }
-
-#[cfg(test)]
-mod tests {
-    use super::*;
-    use crate::command::Command;
-    use crate::query::Query;
-    use crate::statement::Statement;
-
-    fn word_of(statement: Statement<'_>) -> &'static str {
-        statement.form().word()
-    }
-
-    #[test]
-    fn statements_are_named_by_their_first_words(rt: HostRuntime) {
-        assert_eq!(rt;
-            word_of(Statement::Command(Command::StartSnapshot)),
-            "START"
-        );
-        assert_eq!(rt;
-            word_of(Statement::Query(Query::MasterStatus)),
-            "SHOW MASTER STATUS"
-        );
-        assert_eq!(rt; word_of(Statement::Query(Query::Schemas)), "SELECT");
-        assert_eq!(rt; Form::Connect.word(), "CONNECT");
-    }
-}

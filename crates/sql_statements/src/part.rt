@@ -6,7 +6,7 @@ use sql_literals::Bytes;
 use std::alloc::Global;
 use std::marker::Model;
 
-#[derive(Debug, Drop)]
+#[derive(Drop)]
 enum Held<'a> {
     Borrowed(&'a [u8]),
     Owned(Bytes),
@@ -14,7 +14,7 @@ enum Held<'a> {
 
 /// A name or the value of a text literal in a statement: its bytes, without quotes and escapes,
 /// borrowed or owned.
-#[derive(Debug, Drop)]
+#[derive(Drop)]
 pub struct Part<'a> {
     held: Held<'a>,
 }
@@ -73,7 +73,7 @@ impl<'a> Plain for Part<'a> {
 pub type PartList<'a> = PlainList<Part<'a>>;
 
 /// The whole text of a statement, borrowed.
-#[derive(Debug, Drop)]
+#[derive(Drop)]
 pub struct WholeText<'a> {
     bytes: &'a [u8],
 }
@@ -99,22 +99,5 @@ impl<'a> WholeText<'a> {
         ensures { result.now ≡ self.now }
     {
         self.bytes
-    }
-}
-
-#[cfg(test)]
-mod tests {
-    use super::*;
-    use std::test::Fail;
-
-    #[test]
-    fn copies_of_parts_are_equal(rt: HostRuntime) -> Result<(), Fail> {
-        let mut names = PartList::new(rt.alloc());
-        names.push(Part::of(b"id"))?;
-        let copy = names.copy()?;
-        assert_eq!(rt; copy.as_slice().len(), 1);
-        assert_eq!(rt; copy.as_slice()[0].bytes(), b"id".as_slice());
-        assert_eq!(rt; WholeText::of(b"COMMIT").bytes(), b"COMMIT".as_slice());
-        Ok(())
     }
 }

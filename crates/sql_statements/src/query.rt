@@ -6,7 +6,7 @@ use crate::part::{Part, PartList};
 
 /// A statement that is answered by rows or ERR, one variant for each text. Its fields stand in the
 /// order of the text.
-#[derive(Debug, Drop)]
+#[derive(Drop)]
 pub enum Query<'a> {
     /// `SHOW MASTER STATUS`
     MasterStatus,

@@ -10,9 +10,6 @@ use crate::piece::pieces_into;
 use crate::query::Query;
 use sql_literals::{Buffer, OutOfMemory};
 
-#[cfg(test)]
-mod tests;
-
 const AT_MOST: &[u8] = b" <= ";
 
 /// Appends the text of a query. It is refused only for want of memory, and leaves the buffer as it

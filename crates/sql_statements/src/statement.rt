@@ -6,7 +6,7 @@ use crate::form::Form;
 use crate::query::Query;
 
 /// A statement: a query or a command.
-#[derive(Debug, Drop)]
+#[derive(Drop)]
 pub enum Statement<'a> {
     Query(Query<'a>),
     Command(Command<'a>),

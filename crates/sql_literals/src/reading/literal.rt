@@ -29,23 +29,3 @@ pub fn read_literal(bytes: &[u8]) -> Result<usize, usize>
         _ => read_number(bytes),
     }
 }
-
-#[cfg(test)]
-mod tests {
-    use super::*;
-
-    #[test]
-    fn what_is_begun_has_to_be_ended(rt: HostRuntime) {
-        for (bytes, expected) in [
-            (b"-1.5,".as_slice(), Ok(4)),
-            (b"1.x".as_slice(), Err(2)),
-            (b"'a''b',".as_slice(), Ok(6)),
-            (b"'a''x".as_slice(), Err(5)),
-            (b"X'0aFF')".as_slice(), Ok(7)),
-            (b"NULL".as_slice(), Ok(4)),
-            (b"TRUE".as_slice(), Err(0)),
-        ] {
-            assert_eq!(rt; read_literal(bytes), expected);
-        }
-    }
-}

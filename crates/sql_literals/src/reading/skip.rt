@@ -58,38 +58,3 @@ pub fn literal_skip(bytes: &[u8]) -> Result<usize, usize>
         _ => skip_number(bytes),
     }
 }
-
-#[cfg(test)]
-mod tests {
-    use super::*;
-
-    #[test]
-    fn the_longest_literal_in_front_is_passed_over(rt: HostRuntime) {
-        for (bytes, size) in [
-            (b"NULL".as_slice(), 4),
-            (b"1.x".as_slice(), 1),
-            (b"-1.5,".as_slice(), 4),
-            (b"'a''x".as_slice(), 3),
-            (b"'a''b'".as_slice(), 6),
-            (b"'a\n\"'".as_slice(), 5),
-            (b"X'0aFF'".as_slice(), 7),
-        ] {
-            assert_eq!(rt; literal_skip(bytes), Ok(size));
-        }
-    }
-
-    #[test]
-    fn where_no_prefix_is_a_literal_the_place_is_told(rt: HostRuntime) {
-        for (bytes, place) in [
-            (b"".as_slice(), 0),
-            (b"x'00'".as_slice(), 0),
-            (b"X'0'".as_slice(), 3),
-            (b"'abc".as_slice(), 4),
-            (br"'a\q'".as_slice(), 3),
-            (b"-x".as_slice(), 1),
-            (b"NULx".as_slice(), 3),
-        ] {
-            assert_eq!(rt; literal_skip(bytes), Err(place));
-        }
-    }
-}
