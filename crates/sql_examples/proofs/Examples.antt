@@ -1,0 +1,13 @@
+-- Each text computes.
+use Rattle.std.specs.Fmt.{digits}
+use Rattle.std.specs.Prelude.{refl}
+use Rattle.sql_statements.specs.Text.{command_text, query_text}
+use Rattle.sql_examples.specs.Texts.{CommandTexts, QueryTexts}
+
+pub commands : CommandTexts
+unfolding command_text
+commands = record { set_up = refl; names_utf8mb4 = refl; names_binary = refl; foreign_key_checks_off = refl; time_zone_utc = refl; binary_log_off = refl; sql_mode = refl; character_set_client = refl; collation_connection = refl; repeatable_read = refl; lock_instance = refl; flush_tables = refl; unlock_tables = refl; unlock_instance = refl; start_snapshot = refl; start = refl; commit = refl; rollback = refl; use_schema = refl; create = refl; create_progress = refl; create_progress_files = refl; create_progress_dump = refl; insert_whole = refl; insert_progress_file = refl; insert_progress_dump = refl }
+
+pub queries : QueryTexts
+unfolding query_text digits
+queries = record { master_status = refl; schemas = refl; tables = refl; columns = refl; primary_key = refl; triggers = refl; routines = refl; view_needs = refl; create_database = refl; create_table = refl; create_view = refl; create_procedure = refl; create_function = refl; create_trigger = refl; key = refl; key_above = refl; rows = refl; rows_by_key = refl; rows_above = refl; rows_up_to = refl; rows_between = refl; progress_dump = refl; progress_files = refl }
