@@ -1,16 +1,276 @@
 // How queries are written.
 ghost use Rattle.std.specs.Prelude.{◌≡◌, ◌+◌, ◌≤◌, ◌++◌, length, IsOk, OnOk, OnErr};
+ghost use Rattle.sql_statements.specs.Piece.{pieces_text};
 ghost use Rattle.sql_statements.specs.Statement.{QueryHasText};
 ghost use Rattle.sql_statements.specs.Text.{query_text};
 
 use crate::piece::Piece::{
     Above, ByKey, KeyFrom, Name, OneBehind, Path, RowsFrom, Signed, Text, Word,
 };
-use crate::piece::pieces_into;
+use crate::piece::{Piece, pieces_into};
 use crate::query::Query;
 use sql_literals::{Buffer, OutOfMemory};
 
 const AT_MOST: &[u8] = b" <= ";
+
+// Nothing, where a text has fewer pieces.
+const END: Piece<'static> = Word(b"");
+
+// The pieces of a query's text.
+fn query_pieces<'a>(query: &'a Query<'_>) -> [Piece<'a>; 7]
+    ensures { pieces_text result ≡ query_text query.now }
+{
+    match query {
+        Query::MasterStatus => [Word(b"SHOW MASTER STATUS"), END, END, END, END, END, END],
+        Query::Schemas => [
+            Word(b"SELECT SCHEMA_NAME FROM information_schema.SCHEMATA"),
+            END,
+            END,
+            END,
+            END,
+            END,
+            END,
+        ],
+        Query::Tables { schema } => [
+            Word(
+                b"SELECT TABLE_NAME,TABLE_TYPE,ENGINE FROM information_schema.TABLES WHERE TABLE_SCHEMA=",
+            ),
+            Text(schema),
+            END,
+            END,
+            END,
+            END,
+            END,
+        ],
+        Query::Columns { schema, table } => [
+            Word(
+                b"SELECT COLUMN_NAME,DATA_TYPE,COLUMN_TYPE,EXTRA FROM information_schema.COLUMNS WHERE TABLE_SCHEMA=",
+            ),
+            Text(schema),
+            Word(b" AND TABLE_NAME="),
+            Text(table),
+            Word(b" ORDER BY ORDINAL_POSITION"),
+            END,
+            END,
+        ],
+        Query::PrimaryKey { schema, table } => [
+            Word(b"SELECT COLUMN_NAME FROM information_schema.STATISTICS WHERE TABLE_SCHEMA="),
+            Text(schema),
+            Word(b" AND TABLE_NAME="),
+            Text(table),
+            Word(b" AND INDEX_NAME='PRIMARY' ORDER BY SEQ_IN_INDEX"),
+            END,
+            END,
+        ],
+        Query::Triggers { schema } => [
+            Word(
+                b"SELECT TRIGGER_NAME,EVENT_OBJECT_TABLE,ACTION_ORDER FROM information_schema.TRIGGERS WHERE TRIGGER_SCHEMA=",
+            ),
+            Text(schema),
+            END,
+            END,
+            END,
+            END,
+            END,
+        ],
+        Query::Routines { schema } => [
+            Word(
+                b"SELECT ROUTINE_NAME,ROUTINE_TYPE FROM information_schema.ROUTINES WHERE ROUTINE_SCHEMA=",
+            ),
+            Text(schema),
+            END,
+            END,
+            END,
+            END,
+            END,
+        ],
+        Query::ViewNeeds { schema } => [
+            Word(
+                b"SELECT VIEW_NAME,TABLE_SCHEMA,TABLE_NAME FROM information_schema.VIEW_TABLE_USAGE WHERE VIEW_SCHEMA=",
+            ),
+            Text(schema),
+            END,
+            END,
+            END,
+            END,
+            END,
+        ],
+        Query::CreateDatabase { schema } => [
+            Word(b"SHOW CREATE DATABASE "),
+            Name(schema),
+            END,
+            END,
+            END,
+            END,
+            END,
+        ],
+        Query::CreateTable { schema, name } => [
+            Word(b"SHOW CREATE TABLE "),
+            Path(schema, name),
+            END,
+            END,
+            END,
+            END,
+            END,
+        ],
+        Query::CreateView { schema, name } => [
+            Word(b"SHOW CREATE VIEW "),
+            Path(schema, name),
+            END,
+            END,
+            END,
+            END,
+            END,
+        ],
+        Query::CreateProcedure { schema, name } => [
+            Word(b"SHOW CREATE PROCEDURE "),
+            Path(schema, name),
+            END,
+            END,
+            END,
+            END,
+            END,
+        ],
+        Query::CreateFunction { schema, name } => [
+            Word(b"SHOW CREATE FUNCTION "),
+            Path(schema, name),
+            END,
+            END,
+            END,
+            END,
+            END,
+        ],
+        Query::CreateTrigger { schema, name } => [
+            Word(b"SHOW CREATE TRIGGER "),
+            Path(schema, name),
+            END,
+            END,
+            END,
+            END,
+            END,
+        ],
+        Query::Key {
+            key,
+            schema,
+            table,
+            skipped,
+        } => [
+            KeyFrom(key, schema, table),
+            ByKey(key),
+            OneBehind(*skipped),
+            END,
+            END,
+            END,
+            END,
+        ],
+        Query::KeyAbove {
+            key,
+            schema,
+            table,
+            above,
+            skipped,
+        } => [
+            KeyFrom(key, schema, table),
+            Above(key, above),
+            ByKey(key),
+            OneBehind(*skipped),
+            END,
+            END,
+            END,
+        ],
+        Query::Rows {
+            columns,
+            schema,
+            table,
+        } => [
+            RowsFrom(columns, schema, table),
+            END,
+            END,
+            END,
+            END,
+            END,
+            END,
+        ],
+        Query::RowsByKey {
+            columns,
+            schema,
+            table,
+            key,
+        } => [
+            RowsFrom(columns, schema, table),
+            ByKey(key),
+            END,
+            END,
+            END,
+            END,
+            END,
+        ],
+        Query::RowsAbove {
+            columns,
+            schema,
+            table,
+            key,
+            above,
+        } => [
+            RowsFrom(columns, schema, table),
+            Above(key, above),
+            ByKey(key),
+            END,
+            END,
+            END,
+            END,
+        ],
+        Query::RowsUpTo {
+            columns,
+            schema,
+            table,
+            key,
+            up_to,
+        } => [
+            RowsFrom(columns, schema, table),
+            Word(b" WHERE "),
+            Name(key),
+            Word(AT_MOST),
+            Signed(up_to),
+            ByKey(key),
+            END,
+        ],
+        Query::RowsBetween {
+            columns,
+            schema,
+            table,
+            key,
+            above,
+            up_to,
+        } => [
+            RowsFrom(columns, schema, table),
+            Above(key, above),
+            Word(b" AND "),
+            Name(key),
+            Word(AT_MOST),
+            Signed(up_to),
+            ByKey(key),
+        ],
+        Query::ProgressDump => [
+            Word(b"SELECT `digest` FROM `myloader_progress`.`dump`"),
+            END,
+            END,
+            END,
+            END,
+            END,
+            END,
+        ],
+        Query::ProgressFiles => [
+            Word(b"SELECT `name` FROM `myloader_progress`.`files`"),
+            END,
+            END,
+            END,
+            END,
+            END,
+            END,
+        ],
+    }
+}
 
 /// Appends the text of a query. It is refused only for want of memory, and leaves the buffer as it
 /// was then. Where the room is there it takes no memory.
@@ -20,180 +280,5 @@ pub fn query_into(query: &Query<'_>, out: &mut Buffer) -> Result<(), OutOfMemory
     ensures err { OnErr result (out.new ≡ out.old) }
     ensures room { length (query_text query.now) ≤ out.old.spare → IsOk result × (out.new.spare + length (query_text query.now) ≡ out.old.spare) }
 {
-    match query {
-        Query::MasterStatus => pieces_into(&[Word(b"SHOW MASTER STATUS")], out),
-        Query::Schemas => pieces_into(
-            &[Word(b"SELECT SCHEMA_NAME FROM information_schema.SCHEMATA")],
-            out,
-        ),
-        Query::Tables { schema } => pieces_into(
-            &[
-                Word(
-                    b"SELECT TABLE_NAME,TABLE_TYPE,ENGINE FROM information_schema.TABLES WHERE TABLE_SCHEMA=",
-                ),
-                Text(schema),
-            ],
-            out,
-        ),
-        Query::Columns { schema, table } => pieces_into(
-            &[
-                Word(
-                    b"SELECT COLUMN_NAME,DATA_TYPE,COLUMN_TYPE,EXTRA FROM information_schema.COLUMNS WHERE TABLE_SCHEMA=",
-                ),
-                Text(schema),
-                Word(b" AND TABLE_NAME="),
-                Text(table),
-                Word(b" ORDER BY ORDINAL_POSITION"),
-            ],
-            out,
-        ),
-        Query::PrimaryKey { schema, table } => pieces_into(
-            &[
-                Word(b"SELECT COLUMN_NAME FROM information_schema.STATISTICS WHERE TABLE_SCHEMA="),
-                Text(schema),
-                Word(b" AND TABLE_NAME="),
-                Text(table),
-                Word(b" AND INDEX_NAME='PRIMARY' ORDER BY SEQ_IN_INDEX"),
-            ],
-            out,
-        ),
-        Query::Triggers { schema } => pieces_into(
-            &[
-                Word(
-                    b"SELECT TRIGGER_NAME,EVENT_OBJECT_TABLE,ACTION_ORDER FROM information_schema.TRIGGERS WHERE TRIGGER_SCHEMA=",
-                ),
-                Text(schema),
-            ],
-            out,
-        ),
-        Query::Routines { schema } => pieces_into(
-            &[
-                Word(
-                    b"SELECT ROUTINE_NAME,ROUTINE_TYPE FROM information_schema.ROUTINES WHERE ROUTINE_SCHEMA=",
-                ),
-                Text(schema),
-            ],
-            out,
-        ),
-        Query::ViewNeeds { schema } => pieces_into(
-            &[
-                Word(
-                    b"SELECT VIEW_NAME,TABLE_SCHEMA,TABLE_NAME FROM information_schema.VIEW_TABLE_USAGE WHERE VIEW_SCHEMA=",
-                ),
-                Text(schema),
-            ],
-            out,
-        ),
-        Query::CreateDatabase { schema } => {
-            pieces_into(&[Word(b"SHOW CREATE DATABASE "), Name(schema)], out)
-        }
-        Query::CreateTable { schema, name } => {
-            pieces_into(&[Word(b"SHOW CREATE TABLE "), Path(schema, name)], out)
-        }
-        Query::CreateView { schema, name } => {
-            pieces_into(&[Word(b"SHOW CREATE VIEW "), Path(schema, name)], out)
-        }
-        Query::CreateProcedure { schema, name } => {
-            pieces_into(&[Word(b"SHOW CREATE PROCEDURE "), Path(schema, name)], out)
-        }
-        Query::CreateFunction { schema, name } => {
-            pieces_into(&[Word(b"SHOW CREATE FUNCTION "), Path(schema, name)], out)
-        }
-        Query::CreateTrigger { schema, name } => {
-            pieces_into(&[Word(b"SHOW CREATE TRIGGER "), Path(schema, name)], out)
-        }
-        Query::Key {
-            key,
-            schema,
-            table,
-            skipped,
-        } => pieces_into(
-            &[KeyFrom(key, schema, table), ByKey(key), OneBehind(*skipped)],
-            out,
-        ),
-        Query::KeyAbove {
-            key,
-            schema,
-            table,
-            above,
-            skipped,
-        } => pieces_into(
-            &[
-                KeyFrom(key, schema, table),
-                Above(key, above),
-                ByKey(key),
-                OneBehind(*skipped),
-            ],
-            out,
-        ),
-        Query::Rows {
-            columns,
-            schema,
-            table,
-        } => pieces_into(&[RowsFrom(columns, schema, table)], out),
-        Query::RowsByKey {
-            columns,
-            schema,
-            table,
-            key,
-        } => pieces_into(&[RowsFrom(columns, schema, table), ByKey(key)], out),
-        Query::RowsAbove {
-            columns,
-            schema,
-            table,
-            key,
-            above,
-        } => pieces_into(
-            &[
-                RowsFrom(columns, schema, table),
-                Above(key, above),
-                ByKey(key),
-            ],
-            out,
-        ),
-        Query::RowsUpTo {
-            columns,
-            schema,
-            table,
-            key,
-            up_to,
-        } => pieces_into(
-            &[
-                RowsFrom(columns, schema, table),
-                Word(b" WHERE "),
-                Name(key),
-                Word(AT_MOST),
-                Signed(up_to),
-                ByKey(key),
-            ],
-            out,
-        ),
-        Query::RowsBetween {
-            columns,
-            schema,
-            table,
-            key,
-            above,
-            up_to,
-        } => pieces_into(
-            &[
-                RowsFrom(columns, schema, table),
-                Above(key, above),
-                Word(b" AND "),
-                Name(key),
-                Word(AT_MOST),
-                Signed(up_to),
-                ByKey(key),
-            ],
-            out,
-        ),
-        Query::ProgressDump => pieces_into(
-            &[Word(b"SELECT `digest` FROM `myloader_progress`.`dump`")],
-            out,
-        ),
-        Query::ProgressFiles => pieces_into(
-            &[Word(b"SELECT `name` FROM `myloader_progress`.`files`")],
-            out,
-        ),
-    }
+    pieces_into(&query_pieces(query), out)
 }

@@ -1,0 +1,97 @@
+-- The pieces one behind the other are the text.
+use Rattle.std.proofs.Common.{◌∙◌}
+use Rattle.std.proofs.lemmas.List.{append-nil}
+use Rattle.sql_statements.specs.Text.{query_text}
+use Rattle.sql_statements.proofs.query_writing.query_pieces.Goals as goal
+
+pub returns-in-MasterStatus : goal.returns-in-MasterStatus
+unfolding query_text
+returns-in-MasterStatus c = rw c.in-MasterStatus.is
+
+pub returns-in-Schemas : goal.returns-in-Schemas
+unfolding query_text
+returns-in-Schemas c = rw c.in-Schemas.is
+
+pub returns-in-Tables : goal.returns-in-Tables
+unfolding query_text
+returns-in-Tables c = rw c.in-Tables.is (append-nil _ ∙ append-nil _ ∙ append-nil _ ∙ append-nil _ ∙ append-nil _)
+
+pub returns-in-Columns : goal.returns-in-Columns
+unfolding query_text
+returns-in-Columns c = rw c.in-Columns.is (append-nil _ ∙ append-nil _)
+
+pub returns-in-PrimaryKey : goal.returns-in-PrimaryKey
+unfolding query_text
+returns-in-PrimaryKey c = rw c.in-PrimaryKey.is (append-nil _ ∙ append-nil _)
+
+pub returns-in-Triggers : goal.returns-in-Triggers
+unfolding query_text
+returns-in-Triggers c = rw c.in-Triggers.is (append-nil _ ∙ append-nil _ ∙ append-nil _ ∙ append-nil _ ∙ append-nil _)
+
+pub returns-in-Routines : goal.returns-in-Routines
+unfolding query_text
+returns-in-Routines c = rw c.in-Routines.is (append-nil _ ∙ append-nil _ ∙ append-nil _ ∙ append-nil _ ∙ append-nil _)
+
+pub returns-in-ViewNeeds : goal.returns-in-ViewNeeds
+unfolding query_text
+returns-in-ViewNeeds c = rw c.in-ViewNeeds.is (append-nil _ ∙ append-nil _ ∙ append-nil _ ∙ append-nil _ ∙ append-nil _)
+
+pub returns-in-CreateDatabase : goal.returns-in-CreateDatabase
+unfolding query_text
+returns-in-CreateDatabase c = rw c.in-CreateDatabase.is (append-nil _ ∙ append-nil _ ∙ append-nil _ ∙ append-nil _ ∙ append-nil _)
+
+pub returns-in-CreateTable : goal.returns-in-CreateTable
+unfolding query_text
+returns-in-CreateTable c = rw c.in-CreateTable.is (append-nil _ ∙ append-nil _ ∙ append-nil _ ∙ append-nil _ ∙ append-nil _)
+
+pub returns-in-CreateView : goal.returns-in-CreateView
+unfolding query_text
+returns-in-CreateView c = rw c.in-CreateView.is (append-nil _ ∙ append-nil _ ∙ append-nil _ ∙ append-nil _ ∙ append-nil _)
+
+pub returns-in-CreateProcedure : goal.returns-in-CreateProcedure
+unfolding query_text
+returns-in-CreateProcedure c = rw c.in-CreateProcedure.is (append-nil _ ∙ append-nil _ ∙ append-nil _ ∙ append-nil _ ∙ append-nil _)
+
+pub returns-in-CreateFunction : goal.returns-in-CreateFunction
+unfolding query_text
+returns-in-CreateFunction c = rw c.in-CreateFunction.is (append-nil _ ∙ append-nil _ ∙ append-nil _ ∙ append-nil _ ∙ append-nil _)
+
+pub returns-in-CreateTrigger : goal.returns-in-CreateTrigger
+unfolding query_text
+returns-in-CreateTrigger c = rw c.in-CreateTrigger.is (append-nil _ ∙ append-nil _ ∙ append-nil _ ∙ append-nil _ ∙ append-nil _)
+
+pub returns-in-Key : goal.returns-in-Key
+unfolding query_text
+returns-in-Key c = rw c.in-Key.is (append-nil _ ∙ append-nil _ ∙ append-nil _ ∙ append-nil _)
+
+pub returns-in-KeyAbove : goal.returns-in-KeyAbove
+unfolding query_text
+returns-in-KeyAbove c = rw c.in-KeyAbove.is (append-nil _ ∙ append-nil _ ∙ append-nil _)
+
+pub returns-in-Rows : goal.returns-in-Rows
+unfolding query_text
+returns-in-Rows c = rw c.in-Rows.is (append-nil _ ∙ append-nil _ ∙ append-nil _ ∙ append-nil _ ∙ append-nil _ ∙ append-nil _)
+
+pub returns-in-RowsByKey : goal.returns-in-RowsByKey
+unfolding query_text
+returns-in-RowsByKey c = rw c.in-RowsByKey.is (append-nil _ ∙ append-nil _ ∙ append-nil _ ∙ append-nil _ ∙ append-nil _)
+
+pub returns-in-RowsAbove : goal.returns-in-RowsAbove
+unfolding query_text
+returns-in-RowsAbove c = rw c.in-RowsAbove.is (append-nil _ ∙ append-nil _ ∙ append-nil _ ∙ append-nil _)
+
+pub returns-in-RowsUpTo : goal.returns-in-RowsUpTo
+unfolding query_text
+returns-in-RowsUpTo c = rw c.in-RowsUpTo.is (append-nil _)
+
+pub returns-in-RowsBetween : goal.returns-in-RowsBetween
+unfolding query_text
+returns-in-RowsBetween c = rw c.in-RowsBetween.is
+
+pub returns-in-ProgressDump : goal.returns-in-ProgressDump
+unfolding query_text
+returns-in-ProgressDump c = rw c.in-ProgressDump.is
+
+pub returns-in-ProgressFiles : goal.returns-in-ProgressFiles
+unfolding query_text
+returns-in-ProgressFiles c = rw c.in-ProgressFiles.is
