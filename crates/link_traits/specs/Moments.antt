@@ -1,5 +1,5 @@
 -- What a sink and a clock in memory hold.
-use Rattle.std.specs.Prelude.{ℕ, List, [], ◌∷◌, ◌++◌, ◌+◌, ◌-◌, min, zero, suc, slice_index, length}
+use Rattle.std.specs.Prelude.{ℕ, List, [], ◌∷◌, ◌++◌, ◌-◌, min, zero, suc, slice_index, length}
 use Rattle.link_traits.specs.Script.{Counts}
 
 -- what was written, and the calls that are to fail

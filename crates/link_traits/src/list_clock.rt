@@ -80,35 +80,3 @@ impl Clock for ListClock {
         Ok(moment)
     }
 }
-
-#[cfg(test)]
-mod tests {
-    use super::*;
-    use std::test::Fail;
-
-    // The time, if the clock gives one.
-    fn time<C: Clock>(clock: &mut C) -> Option<u64> {
-        clock.now().ok()
-    }
-
-    #[test]
-    fn times_come_in_turn(rt: HostRuntime) -> Result<(), Fail> {
-        let mut times = NumberList::new(rt.alloc());
-        let mut faults = NumberList::new(rt.alloc());
-        times.push(70)?;
-        times.push(50)?;
-        faults.push(1)?;
-        let mut clock = ListClock::new(times, faults);
-        for wanted in [Some(70), None, Some(50), Some(50)] {
-            assert_eq!(rt; time(&mut clock), wanted);
-        }
-        assert_eq!(rt; clock.script.counts(), (1, 0));
-        Ok(())
-    }
-
-    #[test]
-    fn a_clock_without_times_gives_0(rt: HostRuntime) {
-        let mut clock = ListClock::new(NumberList::new(rt.alloc()), NumberList::new(rt.alloc()));
-        assert_eq!(rt; time(&mut clock), Some(0));
-    }
-}

@@ -65,27 +65,3 @@ impl Sink for MemorySink {
         Ok(())
     }
 }
-
-#[cfg(test)]
-mod tests {
-    use super::*;
-    use std::test::Fail;
-
-    // Whether the bytes are written.
-    fn writes<S: Sink>(sink: &mut S, bytes: &[u8]) -> bool {
-        sink.write(bytes).is_ok()
-    }
-
-    #[test]
-    fn a_listed_call_writes_nothing(rt: HostRuntime) -> Result<(), Fail> {
-        let mut faults = NumberList::new(rt.alloc());
-        faults.push(1)?;
-        let mut sink = MemorySink::new(rt.alloc(), faults);
-        assert!(rt; writes(&mut sink, b"one "));
-        assert!(rt; !writes(&mut sink, b"two "));
-        assert!(rt; writes(&mut sink, b"three"));
-        assert_eq!(rt; sink.bytes(), b"one three".as_slice());
-        assert_eq!(rt; sink.script.counts(), (1, 0));
-        Ok(())
-    }
-}

@@ -81,12 +81,6 @@ impl Script {
         self.wanting = self.wanting.saturating_add(1);
     }
 
-    // Failures that were asked for or could not be helped, and those for want of memory.
-    #[cfg(test)]
-    pub(crate) fn counts(&self) -> (u64, u64) {
-        (self.listed, self.wanting)
-    }
-
     // Adds the failures of another object.
     pub(crate) fn add(&mut self, others: &Script)
         ensures { self.new ≡ added self.old others.now }

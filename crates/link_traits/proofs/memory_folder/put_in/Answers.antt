@@ -1,4 +1,4 @@
-use Rattle.std.proofs.Common.{◌≡◌, Some, None, sym, ◌∙◌, rules, true, false}
+use Rattle.std.proofs.Common.{◌≡◌, Some, None, sym, ◌∙◌, rules}
 use Rattle.std.specs.List.{position}
 use Rattle.std.proofs.lemmas.Bool.{false≢true}
 use Rattle.link_traits.specs.Memory.{is_named}
