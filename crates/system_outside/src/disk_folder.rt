@@ -44,6 +44,13 @@ impl<R> DiskFolder<R> {
         }
     }
 
+    /// How often the folder has failed, and each shelf that came back. Takes no memory.
+    pub fn faults(&self) -> u64
+        ensures { result ≡ self.now.faults }
+    {
+        self.faults
+    }
+
     // Counts a failure.
     fn fail(&mut self) -> FolderFailed
         ensures failed { self.new ≡ record self.old { faults = min (self.old.faults + 1) (2 ^ 64 - 1) } }
@@ -162,113 +169,5 @@ where
     fn take_back(&mut self, shelf: DiskShelf<R>) {
         self.out -= 1;
         self.faults = self.faults.saturating_add(shelf.faults());
-    }
-}
-
-#[cfg(test)]
-mod tests {
-    use super::*;
-    use link_traits::Shelf;
-    use std::test::Fail;
-    use std::{env, process};
-
-    // A path of this test's own, at which nothing stands.
-    fn fresh_path(rt: HostRuntime, test: &str) -> Result<String, Fail> {
-        let temp = env::temp_dir(&rt)?;
-        let temp = temp.as_path().as_str();
-        let id = process::id(rt.process());
-        let path = format!(in rt.alloc(); "{temp}/system_outside-{test}-{id}")?;
-        let _ = fs::remove_dir_all(&rt, path.as_str());
-        Ok(path)
-    }
-
-    // The names, each with a space behind it.
-    fn spelled(rt: HostRuntime, names: &NameList) -> Result<String, Fail> {
-        let mut all = String::new(rt.alloc());
-        for name in names.as_slice() {
-            all.push_str(name.as_str())?;
-            all.push(' ')?;
-        }
-        Ok(all)
-    }
-
-    // Makes an empty file.
-    fn make(shelf: &mut DiskShelf<HostRuntime>, name: &str) -> Result<(), FolderFailed>
-        requires { shelf.old.begun ≡ false }
-        ensures { OnOk result (shelf.new.begun ≡ false) }
-    {
-        shelf.create(name)?;
-        shelf.finish()
-    }
-
-    #[test]
-    fn makes_the_directory_that_it_lists(rt: HostRuntime) -> Result<(), Fail> {
-        let path = fresh_path(rt, "lists")?;
-        let mut folder = DiskFolder::new(rt);
-        folder.aim(path.as_str())?;
-        assert_eq!(rt; folder.list()?.as_slice().len(), 0);
-        assert!(rt; fs::metadata(&rt, path.as_str())?.is_dir());
-        fs::remove_dir_all(&rt, path.as_str())?;
-        Ok(())
-    }
-
-    #[test]
-    fn writes_files(rt: HostRuntime) -> Result<(), Fail> {
-        let path = fresh_path(rt, "writes")?;
-        let mut folder = DiskFolder::new(rt);
-        folder.aim(path.as_str())?;
-        let mut shelf = folder.shelf()?;
-        shelf.create("t.sql")?;
-        shelf.append(b"first, ")?;
-        shelf.append(b"second")?;
-        shelf.finish()?;
-        let file = format!(in rt.alloc(); "{path}/t.sql")?;
-        assert_eq!(rt;
-            fs::read_to_string(&rt, file.as_str())?.as_str(),
-            "first, second"
-        );
-        fs::remove_dir_all(&rt, path.as_str())?;
-        Ok(())
-    }
-
-    #[test]
-    fn lists_files_by_name(rt: HostRuntime) -> Result<(), Fail> {
-        let path = fresh_path(rt, "sorts")?;
-        let mut folder = DiskFolder::new(rt);
-        folder.aim(path.as_str())?;
-        let mut shelf = folder.shelf()?;
-        make(&mut shelf, "t.sql")?;
-        make(&mut shelf, "s.sql")?;
-        assert_eq!(rt; spelled(rt, &folder.list()?)?.as_str(), "s.sql t.sql ");
-        fs::remove_dir_all(&rt, path.as_str())?;
-        Ok(())
-    }
-
-    #[test]
-    fn counts_a_file_that_is_there_already(rt: HostRuntime) -> Result<(), Fail> {
-        let path = fresh_path(rt, "counts")?;
-        let mut folder = DiskFolder::new(rt);
-        folder.aim(path.as_str())?;
-        let mut shelf = folder.shelf()?;
-        make(&mut shelf, "t.sql")?;
-        assert_eq!(rt; shelf.create("t.sql"), Err(FolderFailed));
-        folder.take_back(shelf);
-        assert_eq!(rt; folder.faults, 1);
-        fs::remove_dir_all(&rt, path.as_str())?;
-        Ok(())
-    }
-
-    #[test]
-    fn counts_a_path_that_is_no_directory(rt: HostRuntime) -> Result<(), Fail> {
-        let path = fresh_path(rt, "none")?;
-        let mut folder = DiskFolder::new(rt);
-        assert!(rt; folder.shelf().is_err(), "before it has a path");
-        fs::write(&rt, path.as_str(), "a file")?;
-        folder.aim(path.as_str())?;
-        assert!(rt; folder.list().is_err());
-        assert!(rt; folder.shelf().is_err());
-        assert_eq!(rt; folder.faults, 3);
-        fs::remove_file(&rt, path.as_str())?;
-        Ok(())
     }
 }

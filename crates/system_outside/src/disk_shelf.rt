@@ -54,7 +54,7 @@ impl<R: Files> DiskShelf<R> {
     }
 
     /// How often the shelf has failed. Takes no memory.
-    pub(crate) fn faults(&self) -> u64
+    pub fn faults(&self) -> u64
         ensures { result ≡ self.now.faults }
     {
         self.faults

@@ -31,6 +31,13 @@ impl<R> SystemClock<R> {
     {
         SystemClock { rt, faults: 0 }
     }
+
+    /// How often the clock has failed. Takes no memory.
+    pub fn faults(&self) -> u64
+        ensures { result ≡ self.now }
+    {
+        self.faults
+    }
 }
 
 // The seconds since 1970, or `None` where the clock fails or stands outside its range.
@@ -59,52 +66,5 @@ impl<R: time::Clock> Clock for SystemClock<R> {
             return Err(ClockFailed);
         };
         Ok(moment)
-    }
-}
-
-#[cfg(test)]
-mod tests {
-    use super::*;
-    use std::io;
-    use std::io::ErrorKind;
-    use std::test::Fail;
-    use std::time::Duration;
-
-    // A clock that stands still, or is broken.
-    #[derive(Drop)]
-    struct Fixed(Option<u64>);
-
-    impl time::Clock for Fixed {
-        fn monotonic(&self) -> io::Result<Duration> {
-            self.since_1970()
-        }
-
-        fn since_1970(&self) -> io::Result<Duration> {
-            let seconds = self.0.ok_or(io::Error::from(ErrorKind::Other))?;
-            Ok(Duration::from_secs(seconds))
-        }
-    }
-
-    #[test]
-    fn gives_moments_before_the_year_9999(rt: HostRuntime) {
-        let cases = [
-            (Some(0), Ok(0)),
-            (Some(253_370_764_799), Ok(253_370_764_799)),
-            (Some(253_370_764_800), Err(ClockFailed)),
-            (Some(u64::MAX), Err(ClockFailed)),
-            (None, Err(ClockFailed)),
-        ];
-        for (moment, want) in cases {
-            let mut clock = SystemClock::new(Fixed(moment));
-            assert_eq!(rt; clock.now(), want, "at {moment:?}");
-            assert_eq!(rt; clock.faults, u64::from(want.is_err()), "at {moment:?}");
-        }
-    }
-
-    #[test]
-    fn reads_the_system_clock(rt: HostRuntime) -> Result<(), Fail> {
-        // The start of 2024.
-        assert!(rt; SystemClock::new(rt).now()? > 1_704_067_200);
-        Ok(())
     }
 }

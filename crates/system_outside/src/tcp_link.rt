@@ -40,7 +40,7 @@ impl<S: Read + Write> Model for TcpLink<S> {
 
 impl<S: Read + Write> TcpLink<S> {
     /// How often the link has failed. Takes no memory.
-    pub(crate) fn faults(&self) -> u64
+    pub fn faults(&self) -> u64
         ensures { result ≡ self.now.faults }
     {
         self.faults
@@ -59,7 +59,7 @@ impl<S: Read + Write> TcpLink<S> {
 
 impl<S: Read + Write + Drop> TcpLink<S> {
     /// A link over this connection. It is refused only for want of memory.
-    pub(crate) fn new(alloc: Global, stream: S) -> Result<TcpLink<S>, OutOfMemory>
+    pub fn new(alloc: Global, stream: S) -> Result<TcpLink<S>, OutOfMemory>
         ensures { IfOk result (λ made. made ≡ record { failed = false; faults = 0; written = S.contents stream; unread = S.remaining stream }) }
     {
         Ok(TcpLink {
@@ -138,95 +138,5 @@ impl<S: Read + Write + Drop> Link for TcpLink<S> {
             }
         }
         Ok(self.received.take_front(buffer))
-    }
-}
-
-#[cfg(test)]
-mod tests {
-    use super::*;
-    use std::io;
-    use std::io::ErrorKind;
-    use std::test::Fail;
-
-    // A connection that interrupts every other call, gives and takes two bytes a call, and ends
-    // after some calls.
-    #[derive(Drop)]
-    struct Wire {
-        calls_left: u64,
-        sent: Vec<u8>,
-    }
-
-    impl Wire {
-        // `None` at the end, and else whether this call is served.
-        fn is_served(&mut self) -> Option<bool> {
-            self.calls_left = self.calls_left.checked_sub(1)?;
-            Some(self.calls_left.is_multiple_of(2))
-        }
-    }
-
-    impl Read for Wire {
-        fn read(&mut self, buf: &mut [u8]) -> io::Result<usize> {
-            match self.is_served() {
-                None => Ok(0),
-                Some(false) => Err(io::Error::from(ErrorKind::Interrupted)),
-                Some(true) => {
-                    let count = buf.len().min(2);
-                    buf[..count].fill(b'r');
-                    Ok(count)
-                }
-            }
-        }
-    }
-
-    impl Write for Wire {
-        fn write(&mut self, buf: &[u8]) -> io::Result<usize> {
-            match self.is_served() {
-                None => Ok(0),
-                Some(false) => Err(io::Error::from(ErrorKind::Interrupted)),
-                Some(true) => {
-                    let count = buf.len().min(2);
-                    self.sent.extend_from_slice(&buf[..count])?;
-                    Ok(count)
-                }
-            }
-        }
-
-        fn flush(&mut self) -> io::Result<()> {
-            Ok(())
-        }
-    }
-
-    fn link(alloc: Global, calls_left: u64) -> Result<TcpLink<Wire>, OutOfMemory> {
-        let sent = Vec::new(alloc);
-        TcpLink::new(alloc, Wire { calls_left, sent })
-    }
-
-    #[test]
-    fn tries_again_what_was_interrupted(rt: HostRuntime) -> Result<(), Fail> {
-        let mut link = link(rt.alloc(), 8)?;
-        link.send(b"hello")?;
-        assert_eq!(rt; link.stream.sent.as_slice(), b"hello".as_slice());
-        let mut buffer = [0; 4];
-        assert_eq!(rt; link.recv(&mut buffer)?, 2);
-        assert_eq!(rt; buffer, *b"rr\0\0");
-        assert_eq!(rt; link.faults(), 0);
-        Ok(())
-    }
-
-    #[test]
-    fn fails_from_the_first_failure_on(rt: HostRuntime) -> Result<(), Fail> {
-        let mut link = link(rt.alloc(), 4)?;
-        let mut byte = [0; 1];
-        assert_eq!(rt; link.recv(&mut byte)?, 1);
-        assert_eq!(rt; link.send(b"long"), Err(LinkFailed));
-        assert_eq!(rt; link.stream.sent.as_slice(), b"lo".as_slice());
-        assert_eq!(rt;
-            link.recv(&mut byte),
-            Err(LinkFailed),
-            "though a byte waits"
-        );
-        assert_eq!(rt; link.send(b""), Err(LinkFailed));
-        assert_eq!(rt; link.faults(), 3);
-        Ok(())
     }
 }

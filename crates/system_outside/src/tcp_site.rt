@@ -56,6 +56,13 @@ impl<R> TcpSite<R> {
         }
     }
 
+    /// How often the site has failed, and each link that came back. Takes no memory.
+    pub fn faults(&self) -> u64
+        ensures { result ≡ self.now.faults }
+    {
+        self.faults
+    }
+
     // Counts a failure.
     fn fail(&mut self) -> LinkFailed
         ensures failed { self.new ≡ record self.old { faults = min (self.old.faults + 1) (2 ^ 64 - 1) } }
@@ -149,99 +156,5 @@ where
         self.out -= 1;
         self.alone = false;
         self.faults = self.faults.saturating_add(link.faults());
-    }
-}
-
-#[cfg(test)]
-mod tests {
-    use super::*;
-    use crate::read_buffer::READ_SIZE;
-    use std::io::{Read, Write};
-    use std::net::TcpListener;
-    use std::test::Fail;
-
-    // A site, its link and the peer's end of the connection.
-    fn connected(rt: HostRuntime) -> Result<(TcpSite<HostRuntime>, TcpLink, TcpStream), Fail>
-        ensures { IfOk result (λ ends. ends.0.out ≡ 1) }
-    {
-        let listener = TcpListener::bind(&rt, "127.0.0.1:0")?;
-        let mut site = TcpSite::new(rt);
-        site.aim("127.0.0.1", listener.local_addr()?.port())?;
-        let link = site.connect_sole()?;
-        let (peer, _) = listener.accept()?;
-        Ok((site, link, peer))
-    }
-
-    // Receives as many bytes as fit into the buffer.
-    fn receive(link: &mut TcpLink, mut buffer: &mut [u8]) -> Result<(), LinkFailed> {
-        for _ in 0..buffer.len() {
-            if buffer.is_empty() {
-                break;
-            }
-            let count = link.recv(buffer)?;
-            buffer = &mut buffer[count..];
-        }
-        Ok(())
-    }
-
-    #[test]
-    fn receives_in_pieces(rt: HostRuntime) -> Result<(), Fail> {
-        let (_site, mut link, mut peer) = connected(rt)?;
-        peer.write_all(b"\x05\0\0\0hello, and more")?;
-        let mut header = [0; 4];
-        receive(&mut link, &mut header)?;
-        assert_eq!(rt; header, [5, 0, 0, 0]);
-        let mut payload = [0; 5];
-        receive(&mut link, &mut payload)?;
-        assert_eq!(rt; payload, *b"hello");
-        Ok(())
-    }
-
-    #[test]
-    fn receives_what_waits_before_it_reads_on(rt: HostRuntime) -> Result<(), Fail> {
-        let (_site, mut link, mut peer) = connected(rt)?;
-        peer.write_all(b"hello, and more")?;
-        receive(&mut link, &mut [0; 5])?;
-        let mut long = vec![in rt.alloc(); 0; READ_SIZE]?;
-        assert_eq!(rt; link.recv(long.as_mut_slice())?, 10);
-        assert!(rt; long.starts_with(b", and more"));
-        peer.write_all(b"straight")?;
-        assert_eq!(rt; link.recv(long.as_mut_slice())?, 8);
-        assert!(rt; long.starts_with(b"straight"));
-        Ok(())
-    }
-
-    #[test]
-    fn sends_whole_messages(rt: HostRuntime) -> Result<(), Fail> {
-        let (_site, mut link, mut peer) = connected(rt)?;
-        link.send(b"question")?;
-        let mut question = [0; 8];
-        peer.read_exact(&mut question)?;
-        assert_eq!(rt; question, *b"question");
-        Ok(())
-    }
-
-    #[test]
-    fn counts_a_peer_that_closes(rt: HostRuntime) -> Result<(), Fail> {
-        let (mut site, mut link, peer) = connected(rt)?;
-        drop(peer);
-        let mut byte = [0; 1];
-        assert_eq!(rt; link.recv(&mut byte), Err(LinkFailed));
-        assert_eq!(rt; link.faults(), 1);
-        assert_eq!(rt; link.send(b"more"), Err(LinkFailed));
-        site.give_back(link);
-        assert_eq!(rt; site.faults, 2);
-        Ok(())
-    }
-
-    #[test]
-    fn counts_a_connection_that_fails(rt: HostRuntime) -> Result<(), Fail> {
-        let mut site = TcpSite::new(rt);
-        assert!(rt; site.connect_sole().is_err(), "before it has an aim");
-        let port = TcpListener::bind(&rt, "127.0.0.1:0")?.local_addr()?.port();
-        site.aim("127.0.0.1", port)?;
-        assert!(rt; site.connect_sole().is_err(), "nobody listens any more");
-        assert_eq!(rt; site.faults, 2);
-        Ok(())
     }
 }
