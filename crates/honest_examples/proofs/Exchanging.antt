@@ -1,0 +1,237 @@
+-- What bytes spell replies, and what messages are answered by.
+use Rattle.std.proofs.Common.{◌≡◌, ◌≤◌, ℕ, Bool, true, false, List, [], ◌∷◌, ◌++◌, Some, None, refl, ap, sym, ◌∙◌, subst, arith, codes, length, append-nil, inr, map, drop, get_or, replicate, ◌+◌, ◌*◌, length-append}
+use Rattle.std.proofs.lemmas.List.Elements.{All-cons, All-nil}
+use Rattle.my_packets.specs.Packet.{id_behind, packet_count, packets}
+use Rattle.my_packets.proofs.Fronts.{same_packets}
+use Rattle.my_packets.proofs.Packets.{packets_length, short_packets}
+use Rattle.result_rows.specs.KeptText.{kept}
+use Rattle.result_rows.specs.Reading.{counted, definition as turn_definition, end, row}
+use Rattle.result_rows.specs.Reply.{reply_of}
+use Rattle.result_rows.specs.ResultSet.{IsResultSet, IsTaken, taken}
+use Rattle.result_rows.specs.Row.{Cell as SentCell}
+use Rattle.result_rows.specs.declared.reader.Reply.TheVariants.{Columns, Done}
+use Rattle.result_rows.proofs.ResultSets.{set-taken}
+use Rattle.server_model.specs.declared.data.Transaction.{Transaction}
+use Rattle.sql_statements.specs.Statement.{IsReadAs}
+use Rattle.sql_statements.specs.declared.command.Command.TheVariants.{Commit}
+use Rattle.sql_statements.specs.declared.query.Query.TheVariants.{Schemas}
+use Rattle.sql_statements.specs.declared.statement.Statement.{Statement}
+use Rattle.sql_statements.specs.declared.statement.Statement.TheVariants.{Command as SomeCommand}
+use Rattle.honest_server.specs.Exchange.{BeginsAt, Exchanges, IsLoggingIn, packets_from, Replies, accepted, ignored, query_payload, quits, quit_payload, served, switched, turned_away, unknown}
+use Rattle.honest_server.specs.Moves.{plainly}
+use Rattle.honest_server.specs.Serve.{Reply, Serves, done, rows, refused}
+use Rattle.honest_server.specs.Spelled.{IsLeanFront, IsLeanSet, Spells}
+use Rattle.honest_server.specs.State.{Phase, State, in_session, with_others}
+use Rattle.honest_examples.specs.Effects.{worked}
+use Rattle.honest_examples.specs.Exchanges.{ACommandIsAnsweredByOneMessage, ACommitIsAnsweredByAnOk, ALoginIsTaken, AQueryIsAnsweredByItsRows, AQuitIsntAnswered, AreOk, commit, definition, eof, err, logging_in, ok, only, set_before}
+use Rattle.honest_examples.specs.Worked.{history, schema}
+use Rattle.honest_examples.proofs.Reading.{only_commit, read}
+use Rattle.honest_examples.proofs.Commanding.{free}
+
+-- a result set is no single message
+no_single : (columns : ℕ) (found : List (List SentCell)) (message : List ℕ) → IsResultSet columns found (message ∷ []) → ⊥
+no_single columns found message set = omega (arith, ap (λ (messages : List (List ℕ)). length messages) set.messages_are, length-append set.definitions (set.middle ∷ (set.row_messages ++ set.last ∷ [])), length-append set.row_messages (set.last ∷ []))
+
+pub one_message : ACommandIsAnsweredByOneMessage
+unfolding kept
+one_message = record {
+  allowed = record { message = ok; messages_are = refl; says = refl; lean = λ p. omega arith };
+  err_allowed = record { message = err; messages_are = refl; says = refl; lean = λ p. omega arith };
+  err_is_no_ok = λ spells. absurd (cc (ap reply_of (ap (λ (messages : List (List ℕ)). get_or messages 0 []) spells.messages_are) ∙ spells.says));
+  refused = never;
+}
+  where
+    never : (willing : Bool) (reply : Reply) (columns : ℕ) (found : List (List SentCell)) (messages : List (List ℕ)) → IsResultSet columns found messages → Spells willing (SomeCommand Commit) reply messages → ⊥
+    never willing done columns found messages set spells = no_single columns found spells.message (subst (λ (messages : List (List ℕ)). IsResultSet columns found messages) spells.messages_are set)
+    never willing (rows others) columns found messages set spells = spells
+    never willing (refused others said) columns found messages set spells = no_single columns found spells.message (subst (λ (messages : List (List ℕ)). IsResultSet columns found messages) spells.messages_are set)
+
+lean : (last : List ℕ) → length last ≤ 16777216 → IsLeanSet Schemas (only schema) (set_before last)
+lean last short = record {
+  front = (1 ∷ []) ∷ definition ∷ eof ∷ [];
+  row_messages = (1 ∷ codes "s") ∷ [];
+  last = last;
+  messages_are = refl;
+  front_lean = All-cons (IsLeanFront Schemas) (1 ∷ []) (definition ∷ eof ∷ []) (omega arith) (All-cons (IsLeanFront Schemas) definition (eof ∷ []) (omega arith) (All-cons (IsLeanFront Schemas) eof [] (omega arith) (All-nil _)));
+  rows_lean = (omega arith, tt);
+  last_lean = short;
+}
+
+set : IsResultSet 1 ((Some schema ∷ []) ∷ []) (set_before eof)
+set = record {
+  count = 1 ∷ [];
+  definitions = definition ∷ [];
+  middle = eof;
+  row_messages = (1 ∷ codes "s") ∷ [];
+  last = eof;
+  messages_are = refl;
+  count_is = refl;
+  definitions_are = (refl, tt);
+  as_many = refl;
+  middle_is = refl;
+  rows_are = (record { begins = refl; cells_are = refl }, tt);
+  last_is = refl;
+}
+
+pub its_rows : AQueryIsAnsweredByItsRows
+unfolding kept
+its_rows = record {
+  allowed = record { columns = 1; is_set = set; lean = λ p. lean eof (omega arith) };
+  broken_off = inr (record { columns = 1; first = 1 ∷ []; others = definition ∷ eof ∷ (1 ∷ codes "s") ∷ err ∷ []; messages_are = refl; counts = refl; turns = refl; lean = λ p. lean err (omega arith) });
+  other_rows = λ spells. other (set-taken _ _ _ spells.is_set);
+  refused = λ found spells. no_single _ _ ok spells.is_set;
+}
+  where
+    turned : (columns : ℕ) (first : List ℕ) (others : List (List ℕ)) → columns ≡ 1 → others ≡ definition ∷ eof ∷ (1 ∷ codes "s") ∷ eof ∷ [] → taken (counted columns) others ≡ replicate (columns + 1) turn_definition ++ (map row ((Some (codes "ss") ∷ []) ∷ []) ++ end ∷ []) → ⊥
+    turned columns first others is_one are turns = absurd (cc (subst (λ (others : List (List ℕ)). taken (counted 1) others ≡ replicate 2 turn_definition ++ (map row ((Some (codes "ss") ∷ []) ∷ []) ++ end ∷ [])) are (subst (λ (columns : ℕ). taken (counted columns) others ≡ replicate (columns + 1) turn_definition ++ (map row ((Some (codes "ss") ∷ []) ∷ []) ++ end ∷ [])) is_one turns)))
+
+    other : {columns : ℕ} → IsTaken columns ((Some (codes "ss") ∷ []) ∷ []) (set_before eof) → ⊥
+    other {columns} is_taken = turned columns is_taken.first is_taken.others one_column (sym (ap (λ (messages : List (List ℕ)). drop 1 messages) is_taken.messages_are)) is_taken.turns
+      where
+        counts : Some (Columns 1) ≡ Some (Columns columns)
+        counts = ap reply_of (ap (λ (messages : List (List ℕ)). get_or messages 0 []) is_taken.messages_are) ∙ is_taken.reply
+
+        one_column : columns ≡ 1
+        one_column = cc
+
+-- a reply of one message that is an OK
+record IsOkAlone (messages : List (List ℕ)) : Type 0 where
+  message : List ℕ
+  says : reply_of message ≡ Some Done
+  messages_are : messages ≡ message ∷ []
+
+-- a reply to COMMIT that the state allows, and that the messages spell
+pub record IsServedTo (state : State) (messages : List (List ℕ)) (new : State) : Type 0 where
+  pub reply : Reply
+  pub serves : Serves plainly state (SomeCommand Commit) reply new
+  pub spells : Spells state.terms.willing (SomeCommand Commit) reply messages
+
+-- in a session COM_QUERY COMMIT is answered so
+pub of_commit : (state : State) (payload : List ℕ) (messages : List (List ℕ)) (new : State) → state.phase ≡ in_session → payload ≡ query_payload (codes "COMMIT") → Replies plainly state payload messages new → IsServedTo state messages new
+of_commit state payload messages new in_phase is (accepted logging spells new_is) = absurd (subst IsLoggingIn in_phase logging)
+of_commit state payload messages new in_phase is (switched message phase asks lean messages_are new_is) = absurd (cc (sym in_phase ∙ phase))
+of_commit state payload messages new in_phase is (turned_away said logging unwilling spells new_is) = absurd (subst IsLoggingIn in_phase logging)
+of_commit state payload messages new in_phase is (quits phase payload_is messages_are new_is) = absurd (cc (sym is ∙ payload_is))
+of_commit state payload messages new in_phase is (served text statement reply phase payload_is read_as serves spells) = record {
+  reply = reply;
+  serves = subst (λ (statement : Statement). Serves plainly state statement reply new) statement_is serves;
+  spells = subst (λ (statement : Statement). Spells state.terms.willing statement reply messages) statement_is spells;
+}
+  where
+    text_is : text ≡ codes "COMMIT"
+    text_is = ap (λ (bytes : List ℕ). drop 1 bytes) (sym payload_is ∙ is)
+
+    statement_is : statement ≡ SomeCommand Commit
+    statement_is = only_commit statement (subst (λ (text : List ℕ). IsReadAs text statement) text_is read_as)
+of_commit state payload messages new in_phase is (unknown said more phase nothing gives spells) = absurd (nothing.no_statement (codes "COMMIT") (SomeCommand Commit) is read.text_of)
+of_commit state payload messages new in_phase is (ignored phase messages_are new_is) = absurd (cc (sym in_phase ∙ phase))
+
+-- the message is COM_QUERY COMMIT and nothing else
+pub payload_of : (payload : List ℕ) (id : ℕ) → id ≡ 0 → commit ≡ packets id payload → payload ≡ query_payload (codes "COMMIT")
+unfolding packets
+payload_of payload id begins is = sym (same_packets 0 (query_payload (codes "COMMIT")) payload [] [] (ap (λ (bytes : List ℕ). bytes ++ []) (is ∙ ap (λ (id : ℕ). packets id payload) begins))).0
+
+pub of_message : (state : State) (reply : List ℕ) (new : State) → (exchanges : Exchanges plainly state commit reply new) → state.phase ≡ in_session → IsServedTo state exchanges.messages new
+of_message state reply new exchanges in_phase = of_commit state exchanges.payload exchanges.messages new in_phase (payload_of exchanges.payload exchanges.is_message.id (subst (λ (phase : Phase). BeginsAt phase exchanges.is_message.id) in_phase exchanges.is_message.begins) exchanges.is_message.message_is) exchanges.replies
+
+-- where no transaction is open, that is an OK
+by_reply : (reply : Reply) (messages : List (List ℕ)) (new : State) → Serves plainly worked (SomeCommand Commit) reply new → Spells true (SomeCommand Commit) reply messages → IsOkAlone messages × (new ≡ worked)
+by_reply done messages new serves spells = (record { message = spells.message; says = spells.says; messages_are = spells.messages_are }, serves.handles ∙ ap (λ (more : List Transaction). with_others worked more) (serves.sees.sole refl refl))
+by_reply (rows found) messages new serves spells = absurd spells
+by_reply (refused found said) messages new serves spells = absurd (serves.must refl done (with_others worked serves.more) refl)
+
+-- the id of an OK of eleven bytes
+id_of : (message : List ℕ) → 7 ∷ 0 ∷ 0 ∷ 0 ∷ ok ≡ packets 1 message → ⊥
+id_of message is = omega (arith, ap (λ (bytes : List ℕ). get_or bytes 3 0) (is ∙ short_packets 1 message (omega arith) (omega (arith, size))))
+  where
+    size : length message + 4 * packet_count (length message) ≡ 11
+    size = sym (packets_length 1 message) ∙ sym (ap (λ (bytes : List ℕ). length bytes) is)
+
+pub commits : ACommitIsAnsweredByAnOk
+unfolding packets
+commits = record {
+  allowed = record {
+    payload = query_payload (codes "COMMIT");
+    is_message = record { id = 0; begins = refl; message_is = refl };
+    messages = ok ∷ [];
+    replies = served (codes "COMMIT") (SomeCommand Commit) done refl refl read (record { more = []; sees = (free history (Some schema) false None None refl).nothing; handles = refl; ends = tt }) one_message.allowed;
+    reply_is = refl;
+  };
+  nothing_else = nothing_else;
+  refused = λ new exchanges. let answer = nothing_else _ new exchanges in id_of answer.0.message answer.0.bytes_are;
+}
+  where
+    nothing_else : (reply : List ℕ) (new : State) → Exchanges plainly worked commit reply new → AreOk 1 reply × (new ≡ worked)
+    nothing_else reply new exchanges = (record { message = answer.0.message; says = answer.0.says; bytes_are = bytes_are }, answer.1)
+      where
+        told : IsServedTo worked exchanges.messages new
+        told = of_message worked reply new exchanges refl
+
+        payload : exchanges.payload ≡ query_payload (codes "COMMIT")
+        payload = payload_of exchanges.payload exchanges.is_message.id exchanges.is_message.begins exchanges.is_message.message_is
+
+        answer : IsOkAlone exchanges.messages × (new ≡ worked)
+        answer = by_reply told.reply exchanges.messages new told.serves told.spells
+
+        bytes_are : reply ≡ packets 1 answer.0.message
+        bytes_are = exchanges.reply_is ∙ (ap (λ (id : ℕ). packets_from (id_behind (packet_count (length exchanges.payload)) id) exchanges.messages) exchanges.is_message.begins
+            ∙ (ap (λ (payload : List ℕ). packets_from (id_behind (packet_count (length payload)) 0) exchanges.messages) payload
+            ∙ (ap (λ (messages : List (List ℕ)). packets_from 1 messages) answer.0.messages_are ∙ append-nil (packets 1 answer.0.message))))
+
+-- COM_QUIT
+
+of_quit : (payload : List ℕ) (messages : List (List ℕ)) (new : State) → payload ≡ quit_payload → Replies plainly worked payload messages new → messages ≡ []
+of_quit payload messages new is (accepted logging spells new_is) = absurd logging
+of_quit payload messages new is (switched message phase asks lean messages_are new_is) = absurd (cc (phase))
+of_quit payload messages new is (turned_away said logging unwilling spells new_is) = absurd logging
+of_quit payload messages new is (quits phase payload_is messages_are new_is) = messages_are
+of_quit payload messages new is (served text statement reply phase payload_is read_as serves spells) = absurd (cc (sym is ∙ payload_is))
+of_quit payload messages new is (unknown said more phase nothing gives spells) = absurd (nothing.no_quit is)
+of_quit payload messages new is (ignored phase messages_are new_is) = messages_are
+
+pub quit : AQuitIsntAnswered
+unfolding packets
+quit = record {
+  allowed = record { payload = quit_payload; is_message = record { id = 0; begins = refl; message_is = refl }; messages = []; replies = quits refl refl refl refl; reply_is = refl };
+  refused = never;
+}
+  where
+    never : (new : State) → Exchanges plainly worked (1 ∷ 0 ∷ 0 ∷ 0 ∷ 1 ∷ []) (7 ∷ 0 ∷ 0 ∷ 1 ∷ ok) new → ⊥
+    never new exchanges = absurd (cc (exchanges.reply_is ∙ ap (λ (messages : List (List ℕ)). packets_from (id_behind (packet_count (length exchanges.payload)) exchanges.is_message.id) messages) none))
+      where
+        same : packets 0 quit_payload ++ [] ≡ packets 0 exchanges.payload ++ []
+        same = ap (λ (bytes : List ℕ). bytes ++ []) (exchanges.is_message.message_is ∙ ap (λ (id : ℕ). packets id exchanges.payload) exchanges.is_message.begins)
+
+        none : exchanges.messages ≡ []
+        none = of_quit exchanges.payload exchanges.messages new (sym (same_packets 0 quit_payload exchanges.payload [] [] same).0) exchanges.replies
+
+-- the login
+
+record IsOneMessage (messages : List (List ℕ)) : Type 0 where
+  message : List ℕ
+  messages_are : messages ≡ message ∷ []
+
+of_login : (payload : List ℕ) (messages : List (List ℕ)) (new : State) → Replies plainly logging_in payload messages new → IsOneMessage messages
+of_login payload messages new (accepted logging spells new_is) = record { message = spells.message; messages_are = spells.messages_are }
+of_login payload messages new (switched message phase asks lean messages_are new_is) = record { message = message; messages_are = messages_are }
+of_login payload messages new (turned_away said logging unwilling spells new_is) = record { message = spells.message; messages_are = spells.messages_are }
+of_login payload messages new (quits phase payload_is messages_are new_is) = absurd (cc (phase))
+of_login payload messages new (served text statement reply phase payload_is read_as serves spells) = absurd (cc (phase))
+of_login payload messages new (unknown said more phase nothing gives spells) = absurd (cc (phase))
+of_login payload messages new (ignored phase messages_are new_is) = absurd (cc (phase))
+
+pub login : ALoginIsTaken
+unfolding packets
+login = record {
+  allowed = record { payload = 0 ∷ []; is_message = record { id = 1; begins = tt; message_is = refl }; messages = ok ∷ []; replies = accepted tt one_message.allowed refl; reply_is = refl };
+  silent = never;
+}
+  where
+    never : (new : State) → Exchanges plainly logging_in (1 ∷ 0 ∷ 0 ∷ 1 ∷ 0 ∷ []) [] new → ⊥
+    never new exchanges = omega (arith, ap (λ (bytes : List ℕ). length bytes) (exchanges.reply_is ∙ ap (λ (messages : List (List ℕ)). packets_from id messages) one.messages_are), length-append (packets id one.message) [], packets_length id one.message)
+      where
+        one : IsOneMessage exchanges.messages
+        one = of_login exchanges.payload exchanges.messages new exchanges.replies
+
+        id : ℕ
+        id = id_behind (packet_count (length exchanges.payload)) exchanges.is_message.id

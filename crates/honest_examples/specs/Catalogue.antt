@@ -1,0 +1,96 @@
+-- Changes that keep the catalogue, among them the rise of a counter, and others that don't.
+use Rattle.std.specs.Prelude.{ℕ, List, [], ◌∷◌, ◌++◌, Some, None, codes, map}
+use Rattle.object_texts.specs.declared.head.Kind.TheVariants.{Table}
+use Rattle.server_model.specs.declared.data.Change.{Change}
+use Rattle.server_model.specs.declared.data.Change.TheVariants.{Drop, Make, Put}
+use Rattle.server_model.specs.declared.data.Database.{Database}
+use Rattle.server_model.specs.declared.data.Object.{Object}
+use Rattle.server_model.specs.declared.data.TableRows.{TableRows}
+use Rattle.server_model.specs.declared.data.Transaction.{Transaction}
+use Rattle.sql_literals.specs.declared.cell.Cell.{Cell}
+use Rattle.sql_literals.specs.declared.cell.Cell.TheVariants.{Value}
+use Rattle.sql_statements.specs.declared.command.Command.TheVariants.{Insert}
+use Rattle.sql_statements.specs.declared.statement.Statement.{Statement}
+use Rattle.sql_statements.specs.declared.statement.Statement.TheVariants.{Command as SomeCommand}
+use Rattle.honest_server.specs.Catalogue.{IsRise, KeepsCatalogue}
+use Rattle.honest_server.specs.Moves.{plainly}
+use Rattle.honest_server.specs.Serve.{done, Serves}
+use Rattle.honest_server.specs.State.{State, with_own}
+use Rattle.honest_server.specs.WellFormed.{IsWellFormed}
+use Rattle.honest_examples.specs.Effects.{link}
+use Rattle.honest_examples.specs.Worked.{history, id, put, schema, schema_alone, table, the_schema, three, unmarked}
+
+-- a table that numbers its rows
+abbrev pub numbered : List ℕ
+numbered = codes "n"
+
+-- its text, with what stands behind the engine: nothing, or the counter
+abbrev pub text_with : List ℕ → List ℕ
+text_with behind = codes "CREATE TABLE `n` (`id` int NOT NULL AUTO_INCREMENT, PRIMARY KEY (`id`)) ENGINE=InnoDB" ++ behind
+
+abbrev pub with_counter : List ℕ → Object
+with_counter behind = record { kind = Table; schema = schema; name = numbered; text = text_with behind; settings = None; columns = id ∷ []; key = Some 0; rank = 0; needs = [] }
+
+abbrev pub five : List ℕ
+five = codes " AUTO_INCREMENT=5"
+
+abbrev pub seven : List ℕ
+seven = codes " AUTO_INCREMENT=7"
+
+-- the row of this number, and that it is put
+abbrev pub of_number : List ℕ → List Cell
+of_number digits = Value digits ∷ []
+
+abbrev pub put_number : List ℕ → Change
+put_number digits = Put schema numbered (of_number digits)
+
+abbrev pub row_of_number : List ℕ → TableRows
+row_of_number digits = record { table = record { schema = schema; name = numbered }; rows = of_number digits ∷ [] }
+
+-- the schema and such a table, with the rows of these numbers
+abbrev pub counted : List ℕ → List (List ℕ) → Database
+counted behind numbers = record { objects = the_schema ∷ with_counter behind ∷ []; rows = map row_of_number numbers }
+
+-- the table is dropped, made with what then stands behind the engine, and given these rows
+abbrev pub anew : List ℕ → List (List ℕ) → List Change
+anew behind numbers = Drop Table schema numbered ∷ Make (with_counter behind) ∷ map put_number numbers
+
+-- a number is under its table's counter
+pub record ANumberIsUnderItsCounter : Type 0 where
+  pub allowed : IsWellFormed (counted five (codes "4" ∷ []))
+  pub refused : IsWellFormed (counted five (codes "4" ∷ codes "5" ∷ [])) → ⊥
+
+-- a counter rises, and the rows stay
+pub record ACounterRises : Type 0 where
+  pub from_none : IsRise (counted [] []) (anew five [])
+  pub from_five : IsRise (counted five (codes "4" ∷ [])) (anew seven (codes "4" ∷ []))
+  pub falls : IsRise (counted seven (codes "4" ∷ [])) (anew five (codes "4" ∷ [])) → ⊥
+  pub loses : IsRise (counted five (codes "4" ∷ [])) (anew seven []) → ⊥
+
+-- the schema, such a table and a row of it
+abbrev pub counting : List Transaction
+counting = schema_alone ++ unmarked (Make (with_counter five) ∷ put_number (codes "4") ∷ []) ∷ []
+
+-- a row that is put keeps the catalogue, and so does the rise of a counter
+pub record RowsAndCountersKeepTheCatalogue : Type 0 where
+  pub of_a_row : KeepsCatalogue history (unmarked (put three ∷ []) ∷ [])
+  pub of_a_counter : KeepsCatalogue counting (unmarked (anew seven (codes "4" ∷ [])) ∷ [])
+  pub made : KeepsCatalogue history (unmarked (Make (with_counter []) ∷ []) ∷ []) → ⊥
+  pub dropped : KeepsCatalogue history (unmarked (Drop Table schema table ∷ []) ∷ []) → ⊥
+
+-- a link in a session behind that history
+abbrev pub counting_link : State
+counting_link = link counting (Some schema)
+
+-- an INSERT of this number
+abbrev pub insert_number : List ℕ → Statement
+insert_number digits = SomeCommand (Insert (codes "INSERT INTO `n` (`id`) VALUES\n(" ++ digits ++ codes ")"))
+
+abbrev pub six : List ℕ
+six = codes " AUTO_INCREMENT=6"
+
+-- A number under the counter is put alone. With one at the counter the counter rises.
+pub record ANumberAtTheCounterRaisesIt : Type 0 where
+  pub under : Serves plainly counting_link (insert_number (codes "3")) done (with_own counting_link (unmarked (put_number (codes "3") ∷ [])))
+  pub at : Serves plainly counting_link (insert_number (codes "5")) done (with_own counting_link (unmarked (anew six (codes "4" ∷ []) ++ put_number (codes "5") ∷ [])))
+  pub alone : Serves plainly counting_link (insert_number (codes "5")) done (with_own counting_link (unmarked (put_number (codes "5") ∷ []))) → ⊥

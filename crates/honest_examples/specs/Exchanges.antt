@@ -1,0 +1,99 @@
+-- The bytes of replies, and what messages are answered by.
+use Rattle.std.specs.Prelude.{ℕ, ◌≡◌, Bool, true, List, [], ◌∷◌, ◌++◌, Some, None, codes}
+use Rattle.my_packets.specs.Packet.{packets}
+use Rattle.result_rows.specs.KeptText.{kept_text}
+use Rattle.result_rows.specs.Reply.{reply_of}
+use Rattle.result_rows.specs.ResultSet.{IsResultSet}
+use Rattle.result_rows.specs.Row.{Cell as SentCell}
+use Rattle.result_rows.specs.declared.refusal.Refusal.{Refusal}
+use Rattle.result_rows.specs.declared.reader.Reply.TheVariants.{Done}
+use Rattle.sql_literals.specs.declared.cell.Cell.{Cell}
+use Rattle.sql_literals.specs.declared.cell.Cell.TheVariants.{Value}
+use Rattle.sql_statements.specs.declared.command.Command.TheVariants.{Commit}
+use Rattle.sql_statements.specs.declared.query.Query.TheVariants.{Schemas}
+use Rattle.sql_statements.specs.declared.statement.Statement.TheVariants.{Command as SomeCommand, Query as SomeQuery}
+use Rattle.honest_server.specs.Exchange.{Exchanges}
+use Rattle.honest_server.specs.Moves.{plainly}
+use Rattle.honest_server.specs.Serve.{Reply, done, rows, refused}
+use Rattle.honest_server.specs.Spelled.{Spells}
+use Rattle.honest_server.specs.State.{State, closed, greeted, with_error}
+use Rattle.honest_examples.specs.Effects.{worked}
+use Rattle.honest_examples.specs.Worked.{schema}
+
+-- an OK: no rows are affected, no id was inserted, autocommit is on, and there are no warnings
+abbrev pub ok : List ℕ
+ok = 0 ∷ 0 ∷ 0 ∷ 2 ∷ 0 ∷ 0 ∷ 0 ∷ []
+
+-- an ERR of the code 1105
+abbrev pub err : List ℕ
+err = 255 ∷ 81 ∷ 4 ∷ 35 ∷ codes "HY000no"
+
+abbrev pub refusal : Refusal
+refusal = record { code = 1105; state = codes "HY000"; message = kept_text (codes "no") }
+
+-- a result set of one column and one row: the number of columns, a definition, an EOF, the row (s), and what ends it
+abbrev pub definition : List ℕ
+definition = 3 ∷ codes "def" ++ (0 ∷ 0 ∷ 0 ∷ 11 ∷ codes "SCHEMA_NAME" ++ (0 ∷ 12 ∷ 45 ∷ 0 ∷ 0 ∷ 1 ∷ 0 ∷ 0 ∷ 253 ∷ 1 ∷ 0 ∷ 0 ∷ 0 ∷ 0 ∷ []))
+
+abbrev pub eof : List ℕ
+eof = 254 ∷ 0 ∷ 0 ∷ 2 ∷ 0 ∷ []
+
+abbrev pub set_before : List ℕ → List (List ℕ)
+set_before last = (1 ∷ []) ∷ definition ∷ eof ∷ (1 ∷ codes "s") ∷ last ∷ []
+
+-- one row of one cell
+abbrev pub only : List ℕ → List (List Cell)
+only name = (Value name ∷ []) ∷ []
+
+-- a command is answered by one message, which is no result set
+pub record ACommandIsAnsweredByOneMessage : Type 0 where
+  pub allowed : Spells true (SomeCommand Commit) done (ok ∷ [])
+  pub err_allowed : Spells true (SomeCommand Commit) (refused [] refusal) (err ∷ [])
+  pub err_is_no_ok : Spells true (SomeCommand Commit) done (err ∷ []) → ⊥
+  pub refused : (willing : Bool) (reply : Reply) (columns : ℕ) (found : List (List SentCell)) (messages : List (List ℕ)) → IsResultSet columns found messages → Spells willing (SomeCommand Commit) reply messages → ⊥
+
+-- a query is answered by the messages of its rows, behind which an ERR may stand in place of the end
+pub record AQueryIsAnsweredByItsRows : Type 0 where
+  pub allowed : Spells true (SomeQuery Schemas) (rows (only schema)) (set_before eof)
+  pub broken_off : Spells true (SomeQuery Schemas) (refused (only schema) refusal) (set_before err)
+  pub other_rows : Spells true (SomeQuery Schemas) (rows (only (codes "ss"))) (set_before eof) → ⊥
+  pub refused : (found : List (List Cell)) → Spells true (SomeQuery Schemas) (rows found) (ok ∷ []) → ⊥
+
+-- COM_QUERY COMMIT as one packet of the id 0
+abbrev pub commit : List ℕ
+commit = 7 ∷ 0 ∷ 0 ∷ 0 ∷ 3 ∷ codes "COMMIT"
+
+-- the bytes are one message that is an OK, from this id on
+pub record AreOk (id : ℕ) (bytes : List ℕ) : Type 0 where
+  pub message : List ℕ
+  pub says : reply_of message ≡ Some Done
+  pub bytes_are : bytes ≡ packets id message
+
+-- a COMMIT without an open transaction is answered by an OK whose id is 1, by nothing else, and changes nothing
+pub record ACommitIsAnsweredByAnOk : Type 0 where
+  pub allowed : Exchanges plainly worked commit (7 ∷ 0 ∷ 0 ∷ 1 ∷ ok) worked
+  pub nothing_else : (reply : List ℕ) (new : State) → Exchanges plainly worked commit reply new → AreOk 1 reply × (new ≡ worked)
+  pub refused : (new : State) → Exchanges plainly worked commit (7 ∷ 0 ∷ 0 ∷ 0 ∷ ok) new → ⊥
+
+-- COM_QUIT ends the session without an answer
+pub record AQuitIsntAnswered : Type 0 where
+  pub allowed : Exchanges plainly worked (1 ∷ 0 ∷ 0 ∷ 0 ∷ 1 ∷ []) [] (closed worked)
+  pub refused : (new : State) → Exchanges plainly worked (1 ∷ 0 ∷ 0 ∷ 0 ∷ 1 ∷ []) (7 ∷ 0 ∷ 0 ∷ 1 ∷ ok) new → ⊥
+
+-- the link is greeted, and no session is open yet
+abbrev pub logging_in : State
+logging_in = record worked { phase = greeted }
+
+-- whatever the client's response, the login may be taken
+pub record ALoginIsTaken : Type 0 where
+  pub allowed : Exchanges plainly logging_in (1 ∷ 0 ∷ 0 ∷ 1 ∷ 0 ∷ []) (7 ∷ 0 ∷ 0 ∷ 2 ∷ ok) worked
+  pub silent : (new : State) → Exchanges plainly logging_in (1 ∷ 0 ∷ 0 ∷ 1 ∷ 0 ∷ []) [] new → ⊥
+
+-- COM_PING, a command that is no statement
+abbrev pub ping : List ℕ
+ping = 1 ∷ 0 ∷ 0 ∷ 0 ∷ 14 ∷ []
+
+-- is answered by ERR, and changes nothing
+pub record AnUnknownCommandIsAnsweredByAnErr : Type 0 where
+  pub allowed : Exchanges plainly worked ping (11 ∷ 0 ∷ 0 ∷ 1 ∷ err) (with_error worked None refusal)
+  pub refused : (new : State) → Exchanges plainly worked ping (7 ∷ 0 ∷ 0 ∷ 1 ∷ ok) new → ⊥

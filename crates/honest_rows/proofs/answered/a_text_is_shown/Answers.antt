@@ -1,5 +1,0 @@
-use Rattle.honest_rows.proofs.Answering.{text_shown}
-use Rattle.honest_rows.proofs.answered.a_text_is_shown.Goals as goal
-
-pub returns : goal.returns
-returns c = text_shown

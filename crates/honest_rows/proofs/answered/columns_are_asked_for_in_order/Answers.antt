@@ -1,5 +1,0 @@
-use Rattle.honest_rows.proofs.Answering.{columns_in_order}
-use Rattle.honest_rows.proofs.answered.columns_are_asked_for_in_order.Goals as goal
-
-pub returns : goal.returns
-returns c = columns_in_order

@@ -1,5 +1,0 @@
-use Rattle.honest_rows.proofs.Answering.{each_schema}
-use Rattle.honest_rows.proofs.answered.each_schema_is_told.Goals as goal
-
-pub returns : goal.returns
-returns c = each_schema

@@ -1,5 +1,0 @@
-use Rattle.honest_rows.proofs.Answering.{no_triggers}
-use Rattle.honest_rows.proofs.answered.no_triggers_are_told.Goals as goal
-
-pub returns : goal.returns
-returns c = no_triggers

@@ -1,5 +1,0 @@
-use Rattle.honest_rows.proofs.Answering.{last_position}
-use Rattle.honest_rows.proofs.answered.the_last_position_is_shown.Goals as goal
-
-pub returns : goal.returns
-returns c = last_position

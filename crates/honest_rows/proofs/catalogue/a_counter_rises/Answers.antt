@@ -1,5 +1,0 @@
-use Rattle.honest_rows.proofs.Rises.{counter_rises}
-use Rattle.honest_rows.proofs.catalogue.a_counter_rises.Goals as goal
-
-pub returns : goal.returns
-returns c = counter_rises

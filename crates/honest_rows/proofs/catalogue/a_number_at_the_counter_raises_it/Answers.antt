@@ -1,5 +1,0 @@
-use Rattle.honest_rows.proofs.Counting.{raises}
-use Rattle.honest_rows.proofs.catalogue.a_number_at_the_counter_raises_it.Goals as goal
-
-pub returns : goal.returns
-returns c = raises

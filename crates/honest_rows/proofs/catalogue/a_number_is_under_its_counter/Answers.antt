@@ -1,5 +1,0 @@
-use Rattle.honest_rows.proofs.Rises.{under}
-use Rattle.honest_rows.proofs.catalogue.a_number_is_under_its_counter.Goals as goal
-
-pub returns : goal.returns
-returns c = under

@@ -1,5 +1,0 @@
-use Rattle.honest_rows.proofs.Rises.{keep}
-use Rattle.honest_rows.proofs.catalogue.rows_and_counters_keep_the_catalogue.Goals as goal
-
-pub returns : goal.returns
-returns c = keep

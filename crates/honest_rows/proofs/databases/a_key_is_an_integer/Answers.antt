@@ -1,5 +1,0 @@
-use Rattle.honest_rows.proofs.Soundness.{integers}
-use Rattle.honest_rows.proofs.databases.a_key_is_an_integer.Goals as goal
-
-pub returns : goal.returns
-returns c = integers

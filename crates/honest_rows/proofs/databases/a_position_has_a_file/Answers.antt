@@ -1,5 +1,0 @@
-use Rattle.honest_rows.proofs.Soundness.{files}
-use Rattle.honest_rows.proofs.databases.a_position_has_a_file.Goals as goal
-
-pub returns : goal.returns
-returns c = files

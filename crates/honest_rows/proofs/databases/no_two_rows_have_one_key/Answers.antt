@@ -1,5 +1,0 @@
-use Rattle.honest_rows.proofs.Soundness.{one_key}
-use Rattle.honest_rows.proofs.databases.no_two_rows_have_one_key.Goals as goal
-
-pub returns : goal.returns
-returns c = one_key

@@ -1,5 +1,0 @@
-use Rattle.honest_rows.proofs.Soundness.{ends}
-use Rattle.honest_rows.proofs.databases.the_history_makes_the_database.Goals as goal
-
-pub returns : goal.returns
-returns c = ends

@@ -1,5 +1,0 @@
-use Rattle.honest_rows.proofs.Commanding.{commits}
-use Rattle.honest_rows.proofs.effects.a_commit_waits_for_the_read_lock.Goals as goal
-
-pub returns : goal.returns
-returns c = commits

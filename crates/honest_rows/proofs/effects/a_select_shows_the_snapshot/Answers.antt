@@ -1,5 +1,0 @@
-use Rattle.honest_rows.proofs.Commanding.{selects}
-use Rattle.honest_rows.proofs.effects.a_select_shows_the_snapshot.Goals as goal
-
-pub returns : goal.returns
-returns c = selects

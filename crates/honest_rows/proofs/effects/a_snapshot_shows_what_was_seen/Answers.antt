@@ -1,5 +1,0 @@
-use Rattle.honest_rows.proofs.Commanding.{snapshots}
-use Rattle.honest_rows.proofs.effects.a_snapshot_shows_what_was_seen.Goals as goal
-
-pub returns : goal.returns
-returns c = snapshots

@@ -1,5 +1,0 @@
-use Rattle.honest_rows.proofs.Commanding.{creates}
-use Rattle.honest_rows.proofs.effects.a_table_is_made_in_the_current_schema.Goals as goal
-
-pub returns : goal.returns
-returns c = creates

@@ -1,5 +1,0 @@
-use Rattle.honest_rows.proofs.Commanding.{inserts}
-use Rattle.honest_rows.proofs.effects.an_insert_is_committed_at_once.Goals as goal
-
-pub returns : goal.returns
-returns c = inserts

@@ -1,5 +1,0 @@
-use Rattle.honest_rows.proofs.Exchanging.{one_message}
-use Rattle.honest_rows.proofs.exchanges.a_command_is_answered_by_one_message.Goals as goal
-
-pub returns : goal.returns
-returns c = one_message

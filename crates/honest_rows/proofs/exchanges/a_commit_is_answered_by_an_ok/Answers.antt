@@ -1,5 +1,0 @@
-use Rattle.honest_rows.proofs.Exchanging.{commits}
-use Rattle.honest_rows.proofs.exchanges.a_commit_is_answered_by_an_ok.Goals as goal
-
-pub returns : goal.returns
-returns c = commits

@@ -1,5 +1,0 @@
-use Rattle.honest_rows.proofs.Exchanging.{its_rows}
-use Rattle.honest_rows.proofs.exchanges.a_query_is_answered_by_its_rows.Goals as goal
-
-pub returns : goal.returns
-returns c = its_rows

@@ -1,5 +1,0 @@
-use Rattle.honest_rows.proofs.Exchanging.{quit}
-use Rattle.honest_rows.proofs.exchanges.a_quit_isnt_answered.Goals as goal
-
-pub returns : goal.returns
-returns c = quit

@@ -1,5 +1,0 @@
-use Rattle.honest_rows.proofs.Linking.{failure}
-use Rattle.honest_rows.proofs.links.a_failure_loses_nothing_by_halves.Goals as goal
-
-pub returns : goal.returns
-returns c = failure

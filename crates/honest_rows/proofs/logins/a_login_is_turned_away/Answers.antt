@@ -1,5 +1,0 @@
-use Rattle.honest_rows.proofs.LoggingIn.{away}
-use Rattle.honest_rows.proofs.logins.a_login_is_turned_away.Goals as goal
-
-pub returns : goal.returns
-returns c = away

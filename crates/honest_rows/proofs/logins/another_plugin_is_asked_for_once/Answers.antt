@@ -1,5 +1,0 @@
-use Rattle.honest_rows.proofs.LoggingIn.{plugin}
-use Rattle.honest_rows.proofs.logins.another_plugin_is_asked_for_once.Goals as goal
-
-pub returns : goal.returns
-returns c = plugin

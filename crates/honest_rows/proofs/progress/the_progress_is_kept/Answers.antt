@@ -1,5 +1,0 @@
-use Rattle.honest_rows.proofs.Progressing.{kept}
-use Rattle.honest_rows.proofs.progress.the_progress_is_kept.Goals as goal
-
-pub returns : goal.returns
-returns c = kept

@@ -1,5 +1,0 @@
-use Rattle.honest_rows.proofs.Setting.{routine}
-use Rattle.honest_rows.proofs.routines.a_routine_is_shown_with_its_settings.Goals as goal
-
-pub returns : goal.returns
-returns c = routine

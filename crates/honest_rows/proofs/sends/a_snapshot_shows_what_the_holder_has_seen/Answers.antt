@@ -1,5 +1,0 @@
-use Rattle.honest_rows.proofs.Holding.{shown}
-use Rattle.honest_rows.proofs.sends.a_snapshot_shows_what_the_holder_has_seen.Goals as goal
-
-pub returns : goal.returns
-returns c = shown

@@ -1,5 +1,0 @@
-use Rattle.honest_rows.proofs.Holding.{kept}
-use Rattle.honest_rows.proofs.sends.nothing_is_committed_beside_a_holder.Goals as goal
-
-pub returns : goal.returns
-returns c = kept

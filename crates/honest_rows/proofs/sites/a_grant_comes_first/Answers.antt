@@ -1,5 +1,0 @@
-use Rattle.honest_rows.proofs.Returning.{grant_first}
-use Rattle.honest_rows.proofs.sites.a_grant_comes_first.Goals as goal
-
-pub returns : goal.returns
-returns c = grant_first

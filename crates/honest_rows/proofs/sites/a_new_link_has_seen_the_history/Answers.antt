@@ -1,5 +1,0 @@
-use Rattle.honest_rows.proofs.Returning.{new_link}
-use Rattle.honest_rows.proofs.sites.a_new_link_has_seen_the_history.Goals as goal
-
-pub returns : goal.returns
-returns c = new_link

@@ -1,5 +1,0 @@
-use Rattle.honest_rows.proofs.Returning.{keys}
-use Rattle.honest_rows.proofs.sites.links_put_different_keys.Goals as goal
-
-pub returns : goal.returns
-returns c = keys

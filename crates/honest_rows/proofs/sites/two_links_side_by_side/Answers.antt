@@ -1,5 +1,0 @@
-use Rattle.honest_rows.proofs.SideBySide.{side_by_side}
-use Rattle.honest_rows.proofs.sites.two_links_side_by_side.Goals as goal
-
-pub returns : goal.returns
-returns c = side_by_side

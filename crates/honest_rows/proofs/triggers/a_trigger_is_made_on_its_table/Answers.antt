@@ -1,5 +1,0 @@
-use Rattle.honest_rows.proofs.Triggering.{made}
-use Rattle.honest_rows.proofs.triggers.a_trigger_is_made_on_its_table.Goals as goal
-
-pub returns : goal.returns
-returns c = made

@@ -1,5 +1,0 @@
-use Rattle.honest_rows.proofs.Triggering.{puts_more}
-use Rattle.honest_rows.proofs.triggers.a_trigger_may_put_more.Goals as goal
-
-pub returns : goal.returns
-returns c = puts_more

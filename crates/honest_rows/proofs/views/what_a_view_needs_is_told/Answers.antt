@@ -1,5 +1,0 @@
-use Rattle.honest_rows.proofs.Viewing.{needs_told}
-use Rattle.honest_rows.proofs.views.what_a_view_needs_is_told.Goals as goal
-
-pub returns : goal.returns
-returns c = needs_told
