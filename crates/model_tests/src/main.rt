@@ -1,0 +1,117 @@
+//! Tries the cases of `cases.txt`: histories that are folded, databases that are compared, what choices
+//! select, and how long names are in the names of files. It prints each case that differs, and how many
+//! there are.
+#![tactic(auto)]
+
+mod fault;
+mod reading;
+mod words;
+
+use fault::CaseFault;
+use reading::{choice_of, database_of, history_of};
+use server_model::{Choice, Database, agree, escaped_length, replay, select};
+use std::alloc::Global;
+use std::{fs, io};
+use words::database_words;
+
+// No name of a case has so many bytes.
+const LIMIT: usize = 1000;
+
+fn main(rt: HostRuntime) -> io::Result<()> {
+    let text = fs::read_to_string(&rt, "cases.txt")?;
+    let mut cases: u64 = 0;
+    for line in text.lines() {
+        let Some((case, wanted)) = line.split_once(" => ") else {
+            continue;
+        };
+        if let Some(words) = difference(rt.alloc(), case, wanted) {
+            println!(rt; "{case} => {words}, and not {wanted}")?;
+        }
+        cases = cases.wrapping_add(1);
+    }
+    println!(rt; "{cases} cases")
+}
+
+// What comes of a case, where that isn't what is wanted.
+fn difference(alloc: Global, case: &str, wanted: &str) -> Option<String> {
+    match answer(alloc, case) {
+        Ok(found) if found.as_str() == wanted => None,
+        Ok(found) => Some(found),
+        Err(fault) => Some(fault_words(alloc, fault)),
+    }
+}
+
+fn fault_words(alloc: Global, fault: CaseFault) -> String {
+    match format!(in alloc; "{fault}") {
+        Ok(words) => words,
+        Err(_) => String::new(alloc),
+    }
+}
+
+// What comes of a case: the word of a call, and what it is given.
+fn answer(alloc: Global, case: &str) -> Result<String, CaseFault> {
+    let Some((call, words)) = case.split_once(' ') else {
+        return Err(CaseFault::Unread);
+    };
+    match call {
+        "replay" => replayed(alloc, words),
+        "agree" => agreed(alloc, words),
+        "select" => selected(alloc, words),
+        "escaped" => escaped(alloc, words),
+        _ => Err(CaseFault::Unread),
+    }
+}
+
+fn replayed(alloc: Global, words: &str) -> Result<String, CaseFault> {
+    let history = history_of(alloc, words)?;
+    found_words(alloc, &replay(alloc, &history)?)
+}
+
+fn found_words(alloc: Global, found: &Option<Database>) -> Result<String, CaseFault> {
+    match found {
+        Some(database) => database_words(alloc, database),
+        None => Ok(String::from_str(alloc, "no database")?),
+    }
+}
+
+fn agreed(alloc: Global, words: &str) -> Result<String, CaseFault> {
+    let Some((one, other)) = words.split_once(" | ") else {
+        return Err(CaseFault::Unread);
+    };
+    let one = database_of(alloc, one)?;
+    let other = database_of(alloc, other)?;
+    agreement_words(alloc, agree(&one, &other))
+}
+
+fn agreement_words(alloc: Global, agree: bool) -> Result<String, CaseFault> {
+    let word = if agree { "yes" } else { "no" };
+    Ok(String::from_str(alloc, word)?)
+}
+
+fn selected(alloc: Global, words: &str) -> Result<String, CaseFault> {
+    let Some((choice, database)) = words.split_once(" from ") else {
+        return Err(CaseFault::Unread);
+    };
+    let choice = choice_of(alloc, choice)?;
+    let database = database_of(alloc, database)?;
+    selected_words(alloc, &database, &choice)
+}
+
+fn selected_words(
+    alloc: Global,
+    database: &Database,
+    choice: &Choice,
+) -> Result<String, CaseFault> {
+    if choice.pattern.is_some() {
+        return Err(CaseFault::Unread);
+    }
+    database_words(alloc, &select(alloc, database, choice)?)
+}
+
+fn escaped(alloc: Global, name: &str) -> Result<String, CaseFault> {
+    let name = name.as_bytes();
+    if name.len() > LIMIT {
+        return Err(CaseFault::Unread);
+    }
+    Ok(format!(in alloc; "{}", escaped_length(name))?)
+}
