@@ -26,7 +26,10 @@ fn ask_columns<L: Link>(session: &mut Session<L>, words: &Words<'_>) -> Result<(
 {
     let schema = Part::of(words.schema.as_slice());
     let table = Part::of(words.table.as_slice());
-    match session.query(&Query::Columns { schema, table }) {
+    let query = Query::Columns { schema, table };
+    let asked = session.query(&query);
+    drop(query);
+    match asked {
         Ok(_) => Ok(()),
         Err(fault) => Err(fault),
     }

@@ -44,7 +44,9 @@ pub fn ask_rows<L: Link>(
         schema,
         table,
     };
-    match session.query(&query) {
+    let asked = session.query(&query);
+    drop(query);
+    match asked {
         Ok(_) => Ok(()),
         Err(fault) => Err(fault),
     }

@@ -4,21 +4,21 @@ use Rattle.dumper_cli.specs.AskedBy.{asked_by}
 use Rattle.dumper_cli.proofs.Reaching.{HasRows-asked, Keeps-by, rows_asked, rows_unasked}
 use Rattle.dumper_cli.proofs.copy.ask_rows.Goals as goal
 
-pub returns-in-Ok-query-clause-keeps : goal.returns-in-Ok-query-clause-keeps
-returns-in-Ok-query-clause-keeps g c = Keeps-by g.L.Link g.met.L.Link.origins_join c.args.session.now c.query.new.self c.in-Ok-query.ensures.tells c.in-Ok-query.ensures.counted.later c.in-Ok-query.ensures.honest c.in-Ok-query.ensures.origin
+pub returns-in-Ok-asked-clause-keeps : goal.returns-in-Ok-asked-clause-keeps
+returns-in-Ok-asked-clause-keeps g c = Keeps-by g.L.Link g.met.L.Link.origins_join c.args.session.now c.query-asked.new.self c.in-Ok-asked.ensures.tells c.in-Ok-asked.ensures.counted.later c.in-Ok-asked.ensures.honest c.in-Ok-asked.ensures.origin
 
-pub returns-clause-keeps : goal.returns-clause-keeps
-returns-clause-keeps g c = Keeps-by g.L.Link g.met.L.Link.origins_join c.args.session.now c.query.new.self c.in-Err.ensures.tells c.in-Err.ensures.counted.later c.in-Err.ensures.honest c.in-Err.ensures.origin
+pub returns-in-Err-clause-keeps : goal.returns-in-Err-clause-keeps
+returns-in-Err-clause-keeps g c = Keeps-by g.L.Link g.met.L.Link.origins_join c.args.session.now c.query-asked.new.self c.in-Err.ensures.tells c.in-Err.ensures.counted.later c.in-Err.ensures.honest c.in-Err.ensures.origin
 
-pub returns-in-Ok-query-clause-rows : goal.returns-in-Ok-query-clause-rows
-returns-in-Ok-query-clause-rows g c = HasRows-asked c.query.new.self c.in-Ok-query.field-0 c.in-Ok-query.ensures.failed c.in-Ok-query.ensures.columns c.in-Ok-query.ensures.pending
+pub returns-in-Ok-asked-clause-rows : goal.returns-in-Ok-asked-clause-rows
+returns-in-Ok-asked-clause-rows g c = HasRows-asked c.query-asked.new.self c.in-Ok-asked.field-0 c.in-Ok-asked.ensures.failed c.in-Ok-asked.ensures.columns c.in-Ok-asked.ensures.pending
 
-pub returns-in-Ok-query-clause-ok : goal.returns-in-Ok-query-clause-ok
-returns-in-Ok-query-clause-ok g c =
-    let asks = rw (c.in-Ok.ensures, c.of-schema.ensures, c.as_slice.ensures.value, c.of-table.ensures, c.as_slice-2.ensures.value) at c.in-Ok-query.ensures.asks in
-    rows_asked g.L.Link (asked_by c.args.words.now) c.args.session.now c.query.new.self c.in-Ok-query.field-0 c.args.columns.now (Keeps-by g.L.Link g.met.L.Link.origins_join c.args.session.now c.query.new.self c.in-Ok-query.ensures.tells c.in-Ok-query.ensures.counted.later c.in-Ok-query.ensures.honest c.in-Ok-query.ensures.origin) (ap (λ (p : Pending). p.reading) c.in-Ok-query.ensures.pending) asks
+pub returns-in-Ok-asked-clause-ok : goal.returns-in-Ok-asked-clause-ok
+returns-in-Ok-asked-clause-ok g c =
+    let asks = rw (c.in-Ok.ensures, c.of-schema.ensures, c.as_slice.ensures.value, c.of-table.ensures, c.as_slice-2.ensures.value) at c.in-Ok-asked.ensures.asks in
+    rows_asked g.L.Link (asked_by c.args.words.now) c.args.session.now c.query-asked.new.self c.in-Ok-asked.field-0 c.args.columns.now (Keeps-by g.L.Link g.met.L.Link.origins_join c.args.session.now c.query-asked.new.self c.in-Ok-asked.ensures.tells c.in-Ok-asked.ensures.counted.later c.in-Ok-asked.ensures.honest c.in-Ok-asked.ensures.origin) (ap (λ (p : Pending). p.reading) c.in-Ok-asked.ensures.pending) asks
 
-pub returns-clause-err : goal.returns-clause-err
-returns-clause-err g c =
+pub returns-in-Err-clause-err : goal.returns-in-Err-clause-err
+returns-in-Err-clause-err g c =
     let asks = rw (c.in-Ok.ensures, c.of-schema.ensures, c.as_slice.ensures.value, c.of-table.ensures, c.as_slice-2.ensures.value) at c.in-Err.ensures.asks in
-    rows_unasked g.L.Link (asked_by c.args.words.now) c.args.session.now c.query.new.self c.in-Err.fault c.in-Err.ensures.tells c.in-Err.ensures.counted c.args.columns.now asks
+    rows_unasked g.L.Link (asked_by c.args.words.now) c.args.session.now c.query-asked.new.self c.in-Err.fault c.in-Err.ensures.tells c.in-Err.ensures.counted c.args.columns.now asks
