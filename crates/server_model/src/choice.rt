@@ -6,7 +6,7 @@ use plain_data::{OutOfMemory, Plain};
 use sql_literals::{Bytes, NameList};
 
 /// Which databases, tables and other objects are selected.
-#[derive(Debug, Drop)]
+#[derive(Drop)]
 pub struct Choice {
     /// The schemas that are named; none means any.
     pub databases: NameList,

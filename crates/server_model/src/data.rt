@@ -8,7 +8,7 @@ use sql_literals::{Bytes, Name};
 
 /// The settings of a session under which a procedure, a function, a view or a trigger was made. (MySQL 8.0
 /// Reference Manual, 15.1.17, 15.1.22, 15.1.23.)
-#[derive(Debug, Drop)]
+#[derive(Drop)]
 pub struct Settings {
     /// The mode; a view's is empty.
     pub sql_mode: Bytes,
@@ -48,7 +48,7 @@ fn settings_copy(settings: &Option<Settings>) -> Result<Option<Settings>, OutOfM
 }
 
 /// A table or a view that something needs, by its schema and its name.
-#[derive(Debug, Drop)]
+#[derive(Drop)]
 pub struct Need {
     pub schema: Name,
     pub name: Name,
@@ -75,7 +75,7 @@ impl Plain for Need {
 pub type NeedList = PlainList<Need>;
 
 /// A schema, table, view, procedure, function or trigger.
-#[derive(Debug, Drop)]
+#[derive(Drop)]
 pub struct Object {
     pub kind: Kind,
     /// The schema that it stands in; a schema stands in itself.
@@ -99,18 +99,41 @@ impl Object {
     pub fn copy(&self) -> Result<Object, OutOfMemory>
         ensures { IfOk result (λ made. made ≡ self.now) }
     {
+        let (schema, name) = names_copy(&self.schema, &self.name)?;
+        let (text, settings) = text_copy(&self.text, &self.settings)?;
+        let (columns, needs) = columns_copy(&self.columns, &self.needs)?;
         Ok(Object {
             kind: self.kind,
-            schema: self.schema.copy()?,
-            name: self.name.copy()?,
-            text: self.text.copy()?,
-            settings: settings_copy(&self.settings)?,
-            columns: self.columns.copy()?,
+            schema,
+            name,
+            text,
+            settings,
+            columns,
             key: self.key,
             rank: self.rank,
-            needs: self.needs.copy()?,
+            needs,
         })
     }
+}
+
+// An equal text, and equal settings.
+fn text_copy(
+    text: &Bytes,
+    settings: &Option<Settings>,
+) -> Result<(Bytes, Option<Settings>), OutOfMemory>
+    ensures { IfOk result (λ made. (made.0 ≡ text.now) × (made.1 ≡ settings.now)) }
+{
+    Ok((text.copy()?, settings_copy(settings)?))
+}
+
+// Equal columns, and equal needs.
+fn columns_copy(
+    columns: &ColumnList,
+    needs: &NeedList,
+) -> Result<(ColumnList, NeedList), OutOfMemory>
+    ensures { IfOk result (λ made. (made.0 ≡ columns.now) × (made.1 ≡ needs.now)) }
+{
+    Ok((columns.copy()?, needs.copy()?))
 }
 
 impl Plain for Object {
@@ -122,7 +145,7 @@ impl Plain for Object {
 pub type ObjectList = PlainList<Object>;
 
 /// A position of the binary log. (MySQL 8.0 Reference Manual, 15.7.7.23 "SHOW MASTER STATUS Statement".)
-#[derive(Debug, Drop)]
+#[derive(Drop)]
 pub struct Position {
     pub file: Bytes,
     pub offset: u64,
@@ -160,7 +183,7 @@ fn position_copy(position: &Option<Position>) -> Result<Option<Position>, OutOfM
 }
 
 /// A change of what a server holds.
-#[derive(Debug, Drop)]
+#[derive(Drop)]
 pub enum Change {
     /// An object is made.
     Make(Object),
@@ -191,23 +214,39 @@ impl Change {
     {
         match self {
             Change::Make(object) => Ok(Change::Make(object.copy()?)),
-            Change::Drop { kind, schema, name } => Ok(Change::Drop {
-                kind: *kind,
-                schema: schema.copy()?,
-                name: name.copy()?,
-            }),
-            Change::Put { schema, table, row } => Ok(Change::Put {
-                schema: schema.copy()?,
-                table: table.copy()?,
-                row: row.copy()?,
-            }),
-            Change::Remove { schema, table, row } => Ok(Change::Remove {
-                schema: schema.copy()?,
-                table: table.copy()?,
-                row: row.copy()?,
-            }),
+            Change::Drop { kind, schema, name } => {
+                let (schema, name) = names_copy(schema, name)?;
+                let kind = *kind;
+                Ok(Change::Drop { kind, schema, name })
+            }
+            Change::Put { schema, table, row } => {
+                let (schema, table, row) = row_copy(schema, table, row)?;
+                Ok(Change::Put { schema, table, row })
+            }
+            Change::Remove { schema, table, row } => {
+                let (schema, table, row) = row_copy(schema, table, row)?;
+                Ok(Change::Remove { schema, table, row })
+            }
         }
     }
+}
+
+// Equal names.
+fn names_copy(schema: &Name, name: &Name) -> Result<(Name, Name), OutOfMemory>
+    ensures { IfOk result (λ made. (made.0 ≡ schema.now) × (made.1 ≡ name.now)) }
+{
+    Ok((schema.copy()?, name.copy()?))
+}
+
+// Equal names of a table, and an equal row.
+fn row_copy(
+    schema: &Name,
+    table: &Name,
+    row: &CellList,
+) -> Result<(Name, Name, CellList), OutOfMemory>
+    ensures { IfOk result (λ made. (made.0 ≡ schema.now) × (made.1 ≡ table.now) × (made.2 ≡ row.now)) }
+{
+    Ok((schema.copy()?, table.copy()?, row.copy()?))
 }
 
 impl Plain for Change {
@@ -219,7 +258,7 @@ impl Plain for Change {
 pub type ChangeList = PlainList<Change>;
 
 /// What is committed at once, and the position of the binary log behind it, where one is known.
-#[derive(Debug, Drop)]
+#[derive(Drop)]
 pub struct Transaction {
     pub changes: ChangeList,
     pub mark: Option<Position>,
@@ -247,7 +286,7 @@ impl Plain for Transaction {
 pub type History = PlainList<Transaction>;
 
 /// Rows of a table.
-#[derive(Debug, Drop)]
+#[derive(Drop)]
 pub struct TableRows {
     pub table: Need,
     pub rows: RowList,
@@ -274,7 +313,7 @@ impl Plain for TableRows {
 pub type TableList = PlainList<TableRows>;
 
 /// Objects and rows. A table that stands in `rows` twice has the rows of both.
-#[derive(Debug, Drop)]
+#[derive(Drop)]
 pub struct Database {
     pub objects: ObjectList,
     pub rows: TableList,

@@ -10,7 +10,7 @@ use std::marker::Model;
 
 /// The cells of a row, one for each plain column of its table, in their order. It keeps its
 /// allocator.
-#[derive(Debug, Drop)]
+#[derive(Drop)]
 pub struct CellList {
     alloc: Global,
     cells: PlainList<Cell>,
