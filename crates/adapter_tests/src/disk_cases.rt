@@ -3,7 +3,7 @@
 use crate::shelf_cases::ShelfCases;
 use crate::words::{or_nothing, said, said_of};
 use link_traits::{Folder, FolderFailed};
-use sql_literals::NameList;
+use plain_data::NameList;
 use std::alloc::Global;
 use std::marker::Model;
 use std::{fs, io};
@@ -126,7 +126,7 @@ impl DiskCases {
     }
 }
 
-// The names, with bars behind them.
+// The names, with bars after them.
 fn listed(alloc: Global, names: &NameList) -> io::Result<String> {
     let mut words = String::new(alloc);
     for name in names.as_slice() {

@@ -4,7 +4,7 @@ use percent_encoding::{CONTROLS, percent_decode, percent_encode};
 use std::alloc::Global;
 use std::io;
 
-/// The first word, and what stands behind its space.
+/// The first word, and what stands after its space.
 pub fn first_word(words: &str) -> (&str, &str) {
     match words.split_once(' ') {
         Some(parts) => parts,

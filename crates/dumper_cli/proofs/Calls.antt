@@ -2,37 +2,37 @@
 use Rattle.std.proofs.Common.{◌≡◌, ◌≤◌, ◌-◌, ◌==◌, ◌⊎◌, ℕ, suc, Bool, true, false, if◌then◌else◌, List, [], ◌∷◌, ◌++◌, length, map, Option, Some, None, Result, Ok, Err, refl, sym, ◌∙◌, ap, subst, inl, inr, arith}
 use Rattle.std.specs.Prelude.{replicate, option_map}
 use Rattle.std.proofs.lemmas.Bool.Decides.{nat_tests}
-use Rattle.my_login.specs.Response.{response}
-use Rattle.my_login.specs.Greeting.{greeting_of}
-use Rattle.my_login.specs.Switch.{switch_of, behind_request}
-use Rattle.my_login.specs.declared.fault.LoginFault.{LoginFault}
-use Rattle.my_login.specs.declared.fault.LoginFault.TheVariants.{NotProtocol10 as NotTen, PluginUnsupported as Unsupported, Refused as LoginRefused, Garbled as LoginGarbled}
-use Rattle.my_login.specs.declared.greeting.Greeting.{Greeting}
-use Rattle.my_login.specs.declared.switch.Switch.{Switch}
+use Rattle.wire_forms.specs.Response.{response}
+use Rattle.wire_forms.specs.Greeting.{greeting_of}
+use Rattle.wire_forms.specs.Switch.{switch_of, after_request}
+use Rattle.wire_forms.specs.declared.login_fault.LoginFault.{LoginFault}
+use Rattle.wire_forms.specs.declared.login_fault.LoginFault.TheVariants.{NotProtocol10 as NotTen, PluginUnsupported as Unsupported, Refused as LoginRefused, Garbled as LoginGarbled}
+use Rattle.wire_forms.specs.declared.greeting.Greeting.{Greeting}
+use Rattle.wire_forms.specs.declared.switch.Switch.{Switch}
 use Rattle.my_session.specs.Awaited.{Awaited, greeting, decision, done, count, further, fault_at, greeting_fault, switch_fault, decision_fault, done_fault, count_fault, further_fault}
 use Rattle.my_session.specs.Halt.{Halts, Misheard, Unsaid, Stops, at_message, at_payload}
 use Rattle.my_session.specs.Login.{password_answer, switch_answer, IsGreeted, IsSwitched, IsAccepted, IsLoggedIn, IsSettingUp, LoginAwaits, a_greeting, a_decision, an_acceptance, a_set_up, LoginSends, the_response, the_switch_answer, the_set_up}
 use Rattle.my_session.specs.Statements.{command_payload, query_payload, IsRun, RunAwaits, an_ok, RunSends, IsLed, LeadAwaits, LeadSends, IsAsked, IsDescribed, QueryAwaits, a_lead, a_count, a_definition, QuerySends, the_lead, the_query}
-use Rattle.my_session.specs.Wire.{Wire, Hears, Step, commands, answers, hears, Leads, ends, behind_command, behind_answer, behind_message, Takes, behind_sent}
+use Rattle.my_session.specs.Wire.{Wire, Hears, Step, commands, answers, hears, Leads, ends, after_command, after_answer, after_message, Takes, after_sent}
 use Rattle.my_session.specs.declared.fault.SessionFault.{SessionFault}
 use Rattle.my_session.specs.declared.fault.SessionFault.TheVariants.{Link, Refused, Garbled, NotProtocol10, PluginUnsupported, TooLong, StreamTooLong, OutOfMemory}
 use Rattle.my_session.specs.declared.limits.TheConstants.{MESSAGE_LIMIT}
-use Rattle.result_rows.specs.Definition.{column_count}
-use Rattle.result_rows.specs.Reading.{Reading, Further, definition, counted, after, further_of}
-use Rattle.result_rows.specs.Reply.{reply_of, refusal_of, is_ok_packet}
-use Rattle.result_rows.specs.ResultSet.{taken}
-use Rattle.result_rows.specs.declared.reader.Reply.{Reply}
-use Rattle.result_rows.specs.declared.reader.Reply.TheVariants.{Done, Refused as ReplyRefused, Columns as ColumnsReply}
-use Rattle.result_rows.specs.declared.refusal.Refusal.{Refusal}
-use Rattle.sql_statements.specs.Form.{command_form, query_form}
-use Rattle.sql_statements.specs.Text.{query_text}
-use Rattle.sql_statements.specs.declared.command.Command.{Command}
-use Rattle.sql_statements.specs.declared.command.Command.TheVariants.{SetUp}
-use Rattle.sql_statements.specs.declared.form.Form.TheVariants.{Connect, Set}
-use Rattle.sql_statements.specs.declared.query.Query.{Query}
+use Rattle.wire_forms.specs.Definition.{column_count}
+use Rattle.wire_forms.specs.Reading.{Reading, Further, definition, columns_counted, reading_after, further_of}
+use Rattle.wire_forms.specs.Reply.{reply_of, refusal_of, is_ok_packet}
+use Rattle.wire_forms.specs.ResultSet.{turns_of}
+use Rattle.wire_forms.specs.declared.reply.Reply.{Reply}
+use Rattle.wire_forms.specs.declared.reply.Reply.TheVariants.{Done, Refused as ReplyRefused, Columns as ColumnsReply}
+use Rattle.wire_forms.specs.declared.refusal.Refusal.{Refusal}
+use Rattle.statement_forms.specs.Form.{command_form, query_form}
+use Rattle.statement_forms.specs.Text.{query_text}
+use Rattle.statement_forms.specs.declared.command.Command.{Command}
+use Rattle.statement_forms.specs.declared.command.Command.TheVariants.{SetUp}
+use Rattle.statement_forms.specs.declared.form.Form.TheVariants.{Connect, Set}
+use Rattle.statement_forms.specs.declared.query.Query.{Query}
 use Rattle.dumper_cli.specs.Course.{Comes, at_start, commanded, answered, heard, at_message as ends_at_message, at_disorder, at_length, at_limit, EndsWith, awaiting_it, sending_it}
 use Rattle.dumper_cli.specs.Run.{SaidFront}
-use Rattle.dumper_cli.specs.Stage.{Stage, awaits_greeting, sends_response, awaits_decision, sends_switch_answer, awaits_acceptance, sends_set_up, awaits_set_up, sends_names, commanding, answering, awaiting, doing, behind, behind_greeting, behind_switch, behind_decision, behind_ok, behind_count}
+use Rattle.dumper_cli.specs.Stage.{Stage, awaits_greeting, sends_response, awaits_decision, sends_switch_answer, awaits_acceptance, sends_set_up, awaits_set_up, sends_names, commanding, answering, awaiting, doing, stage_after, after_greeting, after_switch, after_decision, after_ok, after_count}
 use Rattle.dumper_cli.specs.Words.{Asked}
 
 -- ---- conversations apart
@@ -40,11 +40,11 @@ use Rattle.dumper_cli.specs.Words.{Asked}
 leads_none : (old new : Wire) → Leads [] old new → old ≡ new
 leads_none old new ends = refl
 
-leads_command : (payload : List ℕ) (rest : List Step) (old new : Wire) → Leads (commands payload ∷ rest) old new → (length payload ≤ MESSAGE_LIMIT) × Leads rest (behind_sent 0 payload old) new
-leads_command payload rest old new (behind_command short leads) = (short, leads)
+leads_command : (payload : List ℕ) (rest : List Step) (old new : Wire) → Leads (commands payload ∷ rest) old new → (length payload ≤ MESSAGE_LIMIT) × Leads rest (after_sent 0 payload old) new
+leads_command payload rest old new (after_command short leads) = (short, leads)
 
-leads_answer : (payload : List ℕ) (rest : List Step) (old new : Wire) → Leads (answers payload ∷ rest) old new → (length payload ≤ MESSAGE_LIMIT) × Leads rest (behind_sent old.id payload old) new
-leads_answer payload rest old new (behind_answer short leads) = (short, leads)
+leads_answer : (payload : List ℕ) (rest : List Step) (old new : Wire) → Leads (answers payload ∷ rest) old new → (length payload ≤ MESSAGE_LIMIT) × Leads rest (after_sent old.id payload old) new
+leads_answer payload rest old new (after_answer short leads) = (short, leads)
 
 -- a message, and the other steps
 record First (message : List ℕ) (rest : List Step) (old new : Wire) : Type 0 where
@@ -53,9 +53,9 @@ record First (message : List ℕ) (rest : List Step) (old new : Wire) : Type 0 w
   leads : Leads rest middle new
 
 leads_message : (message : List ℕ) (rest : List Step) (old new : Wire) → Leads (hears message ∷ rest) old new → First message rest old new
-leads_message message rest old new (behind_message {middle = middle} first leads) = record { middle = middle; hears = first; leads = leads }
+leads_message message rest old new (after_message {middle = middle} first leads) = record { middle = middle; hears = first; leads = leads }
 
--- two conversations, one behind the other
+-- two conversations, one after the other
 record Apart (before later_steps : List Step) (old new : Wire) : Type 0 where
   middle : Wire
   first : Leads before old middle
@@ -63,15 +63,15 @@ record Apart (before later_steps : List Step) (old new : Wire) : Type 0 where
 
 apart : (before later_steps : List Step) (old new : Wire) → Leads (before ++ later_steps) old new → Apart before later_steps old new
 apart [] later_steps old new leads = record { middle = old; first = ends; later = leads }
-apart (commands payload ∷ before) later_steps old new (behind_command short leads) =
-    let rest = apart before later_steps (behind_sent 0 payload old) new leads in
-    record { middle = rest.middle; first = behind_command short rest.first; later = rest.later }
-apart (answers payload ∷ before) later_steps old new (behind_answer short leads) =
-    let rest = apart before later_steps (behind_sent old.id payload old) new leads in
-    record { middle = rest.middle; first = behind_answer short rest.first; later = rest.later }
-apart (hears message ∷ before) later_steps old new (behind_message {middle = next} message_heard leads) =
+apart (commands payload ∷ before) later_steps old new (after_command short leads) =
+    let rest = apart before later_steps (after_sent 0 payload old) new leads in
+    record { middle = rest.middle; first = after_command short rest.first; later = rest.later }
+apart (answers payload ∷ before) later_steps old new (after_answer short leads) =
+    let rest = apart before later_steps (after_sent old.id payload old) new leads in
+    record { middle = rest.middle; first = after_answer short rest.first; later = rest.later }
+apart (hears message ∷ before) later_steps old new (after_message {middle = next} message_heard leads) =
     let rest = apart before later_steps next new leads in
-    record { middle = rest.middle; first = behind_message message_heard rest.first; later = rest.later }
+    record { middle = rest.middle; first = after_message message_heard rest.first; later = rest.later }
 
 -- ---- replies
 
@@ -92,7 +92,7 @@ both_not byte zeroes is = grind (arith, nat_tests)
 -- a switch request is no OK
 no_done : (message : List ℕ) (found : Switch) → switch_of message ≡ Ok found → reply_of message ≡ Some Done → ⊥
 no_done [] found read is = cc
-no_done (byte ∷ bytes) found read is = both_not byte (done_by (byte == 0) (is_ok_packet (byte ∷ bytes)) (byte == 255) (refusal_of (byte ∷ bytes)) (column_count (byte ∷ bytes)) is) (switch_by (byte == 254) (behind_request bytes) found read)
+no_done (byte ∷ bytes) found read is = both_not byte (done_by (byte == 0) (is_ok_packet (byte ∷ bytes)) (byte == 255) (refusal_of (byte ∷ bytes)) (column_count (byte ∷ bytes)) is) (switch_by (byte == 254) (after_request bytes) found read)
 
 switch_goes_on : (place : ℕ) (found : Result Switch LoginFault) → switch_fault 0 found ≡ None → switch_fault place found ≡ None
 switch_goes_on place (Ok found) is = refl
@@ -108,11 +108,11 @@ decision_goes_on place message (Some (ReplyRefused refusal)) is = absurd (cc)
 decision_goes_on place message (Some (ColumnsReply columns)) is = switch_goes_on place (switch_of message) is
 decision_goes_on place message None is = switch_goes_on place (switch_of message) is
 
-switch_turns : (message : List ℕ) (reply : Option Reply) (found : Switch) → (reply ≡ Some Done → ⊥) → decision_fault 0 message reply ≡ None → switch_of message ≡ Ok found → behind_decision message reply ≡ Some (sends_switch_answer found.scramble)
+switch_turns : (message : List ℕ) (reply : Option Reply) (found : Switch) → (reply ≡ Some Done → ⊥) → decision_fault 0 message reply ≡ None → switch_of message ≡ Ok found → after_decision message reply ≡ Some (sends_switch_answer found.scramble)
 switch_turns message (Some Done) found not_done goes_on read = absurd (not_done refl)
 switch_turns message (Some (ReplyRefused refusal)) found not_done goes_on read = absurd (cc)
-switch_turns message (Some (ColumnsReply columns)) found not_done goes_on read = ap behind_switch read
-switch_turns message None found not_done goes_on read = ap behind_switch read
+switch_turns message (Some (ColumnsReply columns)) found not_done goes_on read = ap after_switch read
+switch_turns message None found not_done goes_on read = ap after_switch read
 
 -- ---- ends
 
@@ -171,14 +171,14 @@ module _ (asked : Asked) (start : Wire) where
   -- ---- the login
 
   greeting_heard : (message : List ℕ) (found : Greeting) (new : Wire) → greeting_of message ≡ Ok found → Hears message start new → Comes asked start (sends_response found.scramble) new
-  greeting_heard message found new read first = heard at_start refl first (ap (λ (r : Result Greeting LoginFault). greeting_fault start.place r) read) (ap behind_greeting read)
+  greeting_heard message found new read first = heard at_start refl first (ap (λ (r : Result Greeting LoginFault). greeting_fault start.place r) read) (ap after_greeting read)
 
   greeted : (steps : List Step) (wire : Wire) → IsGreeted asked.user asked.password steps → Leads steps start wire → Comes asked start awaits_decision wire
   greeted steps wire so leads =
       let payload = response asked.user (password_answer asked.password so.found.scramble) in
       let first = leads_message so.message (answers payload ∷ []) start wire (subst (λ (l : List Step). Leads l start wire) so.steps_are leads) in
       let second = leads_answer payload [] first.middle wire first.leads in
-      subst (λ (w : Wire). Comes asked start awaits_decision w) (leads_none (behind_sent first.middle.id payload first.middle) wire second.1) (answered (greeting_heard so.message so.found first.middle so.read first.hears) refl second.0)
+      subst (λ (w : Wire). Comes asked start awaits_decision w) (leads_none (after_sent first.middle.id payload first.middle) wire second.1) (answered (greeting_heard so.message so.found first.middle so.read first.hears) refl second.0)
 
   switch_heard : (before : List Step) (message : List ℕ) (found : Switch) (middle new : Wire) → IsGreeted asked.user asked.password before → Leads before start middle → Hears message middle new → fault_at decision 0 message ≡ None → switch_of message ≡ Ok found → Comes asked start (sends_switch_answer found.scramble) new
   switch_heard before message found middle new so leads first goes_on read =
@@ -190,15 +190,15 @@ module _ (asked : Asked) (start : Wire) where
       let parts = apart so.before (hears so.message ∷ answers payload ∷ []) start wire (subst (λ (l : List Step). Leads l start wire) so.steps_are leads) in
       let first = leads_message so.message (answers payload ∷ []) parts.middle wire parts.later in
       let second = leads_answer payload [] first.middle wire first.leads in
-      subst (λ (w : Wire). Comes asked start awaits_acceptance w) (leads_none (behind_sent first.middle.id payload first.middle) wire second.1) (answered (switch_heard so.before so.message so.found parts.middle first.middle so.greeted parts.first first.hears so.goes_on so.read) refl second.0)
+      subst (λ (w : Wire). Comes asked start awaits_acceptance w) (leads_none (after_sent first.middle.id payload first.middle) wire second.1) (answered (switch_heard so.before so.message so.found parts.middle first.middle so.greeted parts.first first.hears so.goes_on so.read) refl second.0)
 
   accepted : (steps : List Step) (wire : Wire) → IsAccepted asked.user asked.password steps → Leads steps start wire → Comes asked start sends_set_up wire
   accepted steps wire so leads =
       let parts = apart so.before (hears so.message ∷ []) start wire (subst (λ (l : List Step). Leads l start wire) so.steps_are leads) in
       let first = leads_message so.message [] parts.middle wire parts.later in
       let comes : Comes asked start sends_set_up first.middle = elim so.answered [
-        | inl is ↦ heard (greeted so.before parts.middle is parts.first) refl first.hears (ap (λ (r : Option Reply). decision_fault parts.middle.place so.message r) so.said_ok) (ap (λ (r : Option Reply). behind_decision so.message r) so.said_ok)
-        | inr is ↦ heard (switched so.before parts.middle is parts.first) refl first.hears (ap (λ (r : Option Reply). done_fault Connect parts.middle.place r) so.said_ok) (ap (λ (r : Option Reply). behind_ok sends_set_up r) so.said_ok)
+        | inl is ↦ heard (greeted so.before parts.middle is parts.first) refl first.hears (ap (λ (r : Option Reply). decision_fault parts.middle.place so.message r) so.said_ok) (ap (λ (r : Option Reply). after_decision so.message r) so.said_ok)
+        | inr is ↦ heard (switched so.before parts.middle is parts.first) refl first.hears (ap (λ (r : Option Reply). done_fault Connect parts.middle.place r) so.said_ok) (ap (λ (r : Option Reply). after_ok sends_set_up r) so.said_ok)
       ] in
       subst (λ (w : Wire). Comes asked start sends_set_up w) (leads_none first.middle wire first.leads) comes
 
@@ -206,14 +206,14 @@ module _ (asked : Asked) (start : Wire) where
   set_up_said before rest wire so leads =
       let parts = apart before (commands (command_payload SetUp) ∷ rest) start wire leads in
       let first = leads_command (command_payload SetUp) rest parts.middle wire parts.later in
-      (behind_sent 0 (command_payload SetUp) parts.middle, commanded (accepted before parts.middle so parts.first) refl first.0, first.1)
+      (after_sent 0 (command_payload SetUp) parts.middle, commanded (accepted before parts.middle so parts.first) refl first.0, first.1)
 
   pub logged_in : (wire : Wire) → Takes (IsLoggedIn asked.user asked.password) start wire → Comes asked start sends_names wire
   logged_in wire takes =
       let so : IsLoggedIn asked.user asked.password takes.steps = takes.so in
       let parts = set_up_said so.before (hears so.message ∷ []) wire so.accepted (subst (λ (l : List Step). Leads l start wire) so.steps_are takes.leads) in
       let first = leads_message so.message [] parts.0 wire parts.2 in
-      subst (λ (w : Wire). Comes asked start sends_names w) (leads_none first.middle wire first.leads) (heard parts.1 refl first.hears (ap (λ (r : Option Reply). done_fault Set parts.0.place r) so.said_ok) (ap (λ (r : Option Reply). behind_ok sends_names r) so.said_ok))
+      subst (λ (w : Wire). Comes asked start sends_names w) (leads_none first.middle wire first.leads) (heard parts.1 refl first.hears (ap (λ (r : Option Reply). done_fault Set parts.0.place r) so.said_ok) (ap (λ (r : Option Reply). after_ok sends_names r) so.said_ok))
 
   setting_up : (steps : List Step) (wire : Wire) → IsSettingUp asked.user asked.password steps → Leads steps start wire → Comes asked start awaits_set_up wire
   setting_up steps wire so leads =
@@ -248,19 +248,19 @@ module _ (asked : Asked) (start : Wire) where
 
   -- ---- a command
 
-  module _ (command : Command) (stage next final : Stage) (sends : doing asked stage ≡ commanding (command_payload command) next) (waits : doing asked next ≡ awaiting (done (command_form command))) (turns : (message : List ℕ) → behind next message ≡ behind_ok final (reply_of message)) (old new : Wire) (comes : Comes asked start stage old) where
+  module _ (command : Command) (stage next final : Stage) (sends : doing asked stage ≡ commanding (command_payload command) next) (waits : doing asked next ≡ awaiting (done (command_form command))) (turns : (message : List ℕ) → stage_after next message ≡ after_ok final (reply_of message)) (old new : Wire) (comes : Comes asked start stage old) where
     pub ran : Takes (IsRun command) old new → Comes asked start final new
     ran takes =
         let so : IsRun command takes.steps = takes.so in
         let first = leads_command (command_payload command) (hears so.message ∷ []) old new (subst (λ (l : List Step). Leads l old new) so.steps_are takes.leads) in
-        let second = leads_message so.message [] (behind_sent 0 (command_payload command) old) new first.1 in
+        let second = leads_message so.message [] (after_sent 0 (command_payload command) old) new first.1 in
         subst (λ (w : Wire). Comes asked start final w) (leads_none second.middle new second.leads)
-        (heard (commanded comes sends first.0) waits second.hears (ap (λ (r : Option Reply). done_fault (command_form command) old.place r) so.said_ok) (turns so.message ∙ ap (λ (r : Option Reply). behind_ok final r) so.said_ok))
+        (heard (commanded comes sends first.0) waits second.hears (ap (λ (r : Option Reply). done_fault (command_form command) old.place r) so.said_ok) (turns so.message ∙ ap (λ (r : Option Reply). after_ok final r) so.said_ok))
 
     halt_at_run : (steps : List Step) (awaited : Awaited) (middle : Wire) (fault : SessionFault) → RunAwaits command steps awaited → Leads steps old middle → Halts awaited middle fault new → Ends asked start fault new.sent
     halt_at_run steps awaited middle fault (an_ok is) leads halts =
         let first = leads_command (command_payload command) [] old middle (subst (λ (l : List Step). Leads l old middle) is leads) in
-        halts_ends next middle new (subst (λ (w : Wire). Comes asked start next w) (leads_none (behind_sent 0 (command_payload command) old) middle first.1) (commanded comes sends first.0)) (done (command_form command)) waits fault halts
+        halts_ends next middle new (subst (λ (w : Wire). Comes asked start next w) (leads_none (after_sent 0 (command_payload command) old) middle first.1) (commanded comes sends first.0)) (done (command_form command)) waits fault halts
 
     pub run_ends : (fault : SessionFault) → Stops (RunAwaits command) (RunSends command) old fault new → Ends asked start fault new.sent
     run_ends fault (at_message {steps = steps} {awaited = awaited} {middle = middle} awaits leads halts) = halt_at_run steps awaited middle fault awaits leads halts
@@ -270,22 +270,22 @@ module _ (asked : Asked) (start : Wire) where
 
   -- ---- a query that no USE leads
 
-  module _ (query : Query) (stage next : Stage) (final : Reading → Stage) (sends : doing asked stage ≡ commanding (query_payload (query_text query)) next) (waits : doing asked next ≡ awaiting (count (query_form query))) (turns : (message : List ℕ) → behind next message ≡ behind_count final (reply_of message))
-      (waits_on : (reading : Reading) → doing asked (final reading) ≡ awaiting (further (query_form query) reading)) (turns_on : (reading : Reading) (message : List ℕ) → further_of reading message ≡ definition → behind (final reading) message ≡ Some (final (after reading definition)))
+  module _ (query : Query) (stage next : Stage) (final : Reading → Stage) (sends : doing asked stage ≡ commanding (query_payload (query_text query)) next) (waits : doing asked next ≡ awaiting (count (query_form query))) (turns : (message : List ℕ) → stage_after next message ≡ after_count final (reply_of message))
+      (waits_on : (reading : Reading) → doing asked (final reading) ≡ awaiting (further (query_form query) reading)) (turns_on : (reading : Reading) (message : List ℕ) → further_of reading message ≡ definition → stage_after (final reading) message ≡ Some (final (reading_after reading definition)))
       (led : (steps : List Step) → IsLed query steps → steps ≡ []) (none_awaited : (steps : List Step) (awaited : Awaited) → LeadAwaits query steps awaited → ⊥) (none_sent : (steps : List Step) (payload : List ℕ) → LeadSends query steps payload → ⊥) (old new : Wire) (comes : Comes asked start stage old) where
     asked_so : (steps rest : List Step) (wire : Wire) → IsAsked query steps → Leads (steps ++ rest) old wire → (middle : Wire) × Comes asked start next middle × Leads rest middle wire
     asked_so steps rest wire so leads =
         let own : steps ≡ commands (query_payload (query_text query)) ∷ [] = so.steps_are ∙ ap (λ (l : List Step). l ++ commands (query_payload (query_text query)) ∷ []) (led so.before so.led) in
         let first = leads_command (query_payload (query_text query)) rest old wire (subst (λ (l : List Step). Leads (l ++ rest) old wire) own leads) in
-        (behind_sent 0 (query_payload (query_text query)) old, commanded comes sends first.0, first.1)
+        (after_sent 0 (query_payload (query_text query)) old, commanded comes sends first.0, first.1)
 
-    first_more : (reading : Reading) (message : List ℕ) (others : List (List ℕ)) → taken reading (message ∷ others) ≡ replicate (length (message ∷ others)) definition → (further_of reading message ≡ definition) × (taken (record reading { awaited = reading.awaited - 1 }) others ≡ replicate (length others) definition)
+    first_more : (reading : Reading) (message : List ℕ) (others : List (List ℕ)) → turns_of reading (message ∷ others) ≡ replicate (length (message ∷ others)) definition → (further_of reading message ≡ definition) × (turns_of (record reading { awaited = reading.awaited - 1 }) others ≡ replicate (length others) definition)
     first_more reading message others is =
         let first : further_of reading message ≡ definition = cc in
-        let later : taken (after reading (further_of reading message)) others ≡ replicate (length others) definition = cc in
-        (first, ap (λ (f : Further). taken (after reading f) others) (sym first) ∙ later)
+        let later : turns_of (reading_after reading (further_of reading message)) others ≡ replicate (length others) definition = cc in
+        (first, ap (λ (f : Further). turns_of (reading_after reading f) others) (sym first) ∙ later)
 
-    walked : (others : List (List ℕ)) (reading : Reading) (middle wire : Wire) → taken reading others ≡ replicate (length others) definition → Leads (map (λ message. hears message) others) middle wire → Comes asked start (final reading) middle → Comes asked start (final (record reading { awaited = reading.awaited - length others })) wire
+    walked : (others : List (List ℕ)) (reading : Reading) (middle wire : Wire) → turns_of reading others ≡ replicate (length others) definition → Leads (map (λ message. hears message) others) middle wire → Comes asked start (final reading) middle → Comes asked start (final (record reading { awaited = reading.awaited - length others })) wire
     walked [] reading middle wire is leads so =
         let same : reading.awaited ≡ reading.awaited - length {A = List ℕ} [] = omega arith in
         subst (λ (n : ℕ). Comes asked start (final (record reading { awaited = n })) wire) same (subst (λ (w : Wire). Comes asked start (final reading) w) (leads_none middle wire leads) so)
@@ -301,14 +301,14 @@ module _ (asked : Asked) (start : Wire) where
     described steps reading wire so leads =
         let parts = asked_so so.before (hears so.first ∷ map (λ message. hears message) so.others) wire so.asked (subst (λ (l : List Step). Leads l old wire) so.steps_are leads) in
         let first = leads_message so.first (map (λ message. hears message) so.others) parts.0 wire parts.2 in
-        let there = heard parts.1 waits first.hears (ap (λ (r : Option Reply). count_fault (query_form query) parts.0.place r) so.reply) (turns so.first ∙ ap (λ (r : Option Reply). behind_count final r) so.reply) in
-        subst (λ (r : Reading). Comes asked start (final r) wire) (sym so.reading_is) (walked so.others (counted so.columns) first.middle wire so.turns first.leads there)
+        let there = heard parts.1 waits first.hears (ap (λ (r : Option Reply). count_fault (query_form query) parts.0.place r) so.reply) (turns so.first ∙ ap (λ (r : Option Reply). after_count final r) so.reply) in
+        subst (λ (r : Reading). Comes asked start (final r) wire) (sym so.reading_is) (walked so.others (columns_counted so.columns) first.middle wire so.turns first.leads there)
 
     counting : (steps : List Step) (wire : Wire) → IsAsked query steps → Leads steps old wire → Comes asked start next wire
     counting steps wire so leads =
         let own : steps ≡ commands (query_payload (query_text query)) ∷ [] = so.steps_are ∙ ap (λ (l : List Step). l ++ commands (query_payload (query_text query)) ∷ []) (led so.before so.led) in
         let first = leads_command (query_payload (query_text query)) [] old wire (subst (λ (l : List Step). Leads l old wire) own leads) in
-        subst (λ (w : Wire). Comes asked start next w) (leads_none (behind_sent 0 (query_payload (query_text query)) old) wire first.1) (commanded comes sends first.0)
+        subst (λ (w : Wire). Comes asked start next w) (leads_none (after_sent 0 (query_payload (query_text query)) old) wire first.1) (commanded comes sends first.0)
 
     halt_at_query : (steps : List Step) (awaited : Awaited) (middle : Wire) (fault : SessionFault) → QueryAwaits query steps awaited → Leads steps old middle → Halts awaited middle fault new → Ends asked start fault new.sent
     halt_at_query steps awaited middle fault (a_lead lead) leads halts = absurd (none_awaited steps awaited lead)

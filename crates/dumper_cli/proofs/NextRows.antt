@@ -8,8 +8,8 @@ use Rattle.my_session.specs.declared.fault.SessionFault.{SessionFault}
 use Rattle.my_session.specs.declared.fault.SessionFault.TheVariants.{Link, Refused, Garbled, NotProtocol10, PluginUnsupported, TooLong, StreamTooLong, OutOfMemory}
 use Rattle.result_rows.specs.RowCells.{row_cells}
 use Rattle.result_rows.specs.declared.row.Row.{Row}
-use Rattle.sql_literals.specs.Literal.{Cell}
-use Rattle.sql_statements.specs.declared.form.Form.TheVariants.{Select}
+use Rattle.sql_cells.specs.Literal.{Cell}
+use Rattle.statement_forms.specs.declared.form.Form.TheVariants.{Select}
 use Rattle.dumper_cli.specs.Next.{IsReady, HasRows, Keeps, ColumnAdded, ColumnsEnd, RowAdded, RowsEnd, Broke}
 use Rattle.dumper_cli.specs.Run.{Start, Reached, Halted}
 use Rattle.dumper_cli.specs.Stage.{Stage, awaits_columns, awaits_rows, awaiting, doing}

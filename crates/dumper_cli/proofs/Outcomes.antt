@@ -2,21 +2,21 @@
 use Rattle.std.proofs.Common.{◌≡◌, ◌<◌, ◌≤◌, ℕ, List, length, Option, Some, None, refl, sym, ◌∙◌, ap, subst, inl, inr, arith}
 use Rattle.my_session.proofs.OneNext.{one_next}
 use Rattle.my_session.specs.Awaited.{Awaited, fault_at}
-use Rattle.my_session.specs.Wire.{Wire, Hears, behind_sent}
+use Rattle.my_session.specs.Wire.{Wire, Hears, after_sent}
 use Rattle.my_session.specs.declared.fault.SessionFault.{SessionFault}
 use Rattle.my_session.specs.declared.fault.SessionFault.TheVariants.{TooLong}
 use Rattle.my_session.specs.declared.limits.TheConstants.{MESSAGE_LIMIT}
-use Rattle.sql_literals.specs.Literal.{Cell}
+use Rattle.sql_cells.specs.Literal.{Cell}
 use Rattle.dumper_cli.specs.Course.{Comes, at_start, commanded, answered, heard, IsWhole, IsOverlong, EndsAt, at_message, at_unfit, at_disorder, at_length, at_limit, EndsWith, awaiting_it, sending_it, HasOneOutcome}
-use Rattle.dumper_cli.specs.Stage.{Stage, Doing, awaits_greeting, is_over, commanding, answering, awaiting, nothing, doing, behind}
+use Rattle.dumper_cli.specs.Stage.{Stage, Doing, awaits_greeting, is_over, commanding, answering, awaiting, nothing, doing, stage_after}
 use Rattle.dumper_cli.specs.Words.{Asked}
 use Rattle.dumper_cli.specs.declared.column.Column.{Column}
 
 -- one step of a dump: a payload is sent, or a message is heard
 data Moves (asked : Asked) (stage : Stage) (wire : Wire) : Stage → Wire → Type 0 where
-  commands : {next : Stage} {payload : List ℕ} → doing asked stage ≡ commanding payload next → length payload ≤ MESSAGE_LIMIT → Moves asked stage wire next (behind_sent 0 payload wire)
-  answers : {next : Stage} {payload : List ℕ} → doing asked stage ≡ answering payload next → length payload ≤ MESSAGE_LIMIT → Moves asked stage wire next (behind_sent wire.id payload wire)
-  hears : {next : Stage} {new : Wire} {message : List ℕ} {awaited : Awaited} → doing asked stage ≡ awaiting awaited → Hears message wire new → fault_at awaited wire.place message ≡ None → behind stage message ≡ Some next → Moves asked stage wire next new
+  commands : {next : Stage} {payload : List ℕ} → doing asked stage ≡ commanding payload next → length payload ≤ MESSAGE_LIMIT → Moves asked stage wire next (after_sent 0 payload wire)
+  answers : {next : Stage} {payload : List ℕ} → doing asked stage ≡ answering payload next → length payload ≤ MESSAGE_LIMIT → Moves asked stage wire next (after_sent wire.id payload wire)
+  hears : {next : Stage} {new : Wire} {message : List ℕ} {awaited : Awaited} → doing asked stage ≡ awaiting awaited → Hears message wire new → fault_at awaited wire.place message ≡ None → stage_after stage message ≡ Some next → Moves asked stage wire next new
 
 same_commanding : (is : Doing) (payload other : List ℕ) (next also : Stage) → is ≡ commanding payload next → is ≡ commanding other also → (payload ≡ other) × (next ≡ also)
 same_commanding is payload other next also a b = (cc, cc)
@@ -34,19 +34,19 @@ same_stage found next also a b = cc
 one_move : (asked : Asked) (stage : Stage) (wire : Wire) (next also : Stage) (new other : Wire) → Moves asked stage wire next new → Moves asked stage wire also other → (next ≡ also) × (new ≡ other)
 one_move asked stage wire next also new other (commands {payload = payload} is short) (commands {payload = second} too fits) =
     let same = same_commanding (doing asked stage) payload second next also is too in
-    (same.1, ap (λ (l : List ℕ). behind_sent 0 l wire) same.0)
+    (same.1, ap (λ (l : List ℕ). after_sent 0 l wire) same.0)
 one_move asked stage wire next also new other (commands is short) (answers too fits) = absurd (cc)
 one_move asked stage wire next also new other (commands is short) (hears too second goes_on turns) = absurd (cc)
 one_move asked stage wire next also new other (answers is short) (commands too fits) = absurd (cc)
 one_move asked stage wire next also new other (answers {payload = payload} is short) (answers {payload = second} too fits) =
     let same = same_answering (doing asked stage) payload second next also is too in
-    (same.1, ap (λ (l : List ℕ). behind_sent wire.id l wire) same.0)
+    (same.1, ap (λ (l : List ℕ). after_sent wire.id l wire) same.0)
 one_move asked stage wire next also new other (answers is short) (hears too second goes_on turns) = absurd (cc)
 one_move asked stage wire next also new other (hears is first goes_on turns) (commands too fits) = absurd (cc)
 one_move asked stage wire next also new other (hears is first goes_on turns) (answers too fits) = absurd (cc)
 one_move asked stage wire next also new other (hears {message = message} is first goes_on turns) (hears {message = second} too later goes_on_too turns_too) =
     let same = (one_next wire).one_message message second new other first later in
-    (same_stage (behind stage message) next also turns (ap (λ (m : List ℕ). behind stage m) same.0 ∙ turns_too), same.1)
+    (same_stage (stage_after stage message) next also turns (ap (λ (m : List ℕ). stage_after stage m) same.0 ∙ turns_too), same.1)
 
 -- the steps that lead to an end
 data Onward (asked : Asked) (end : Stage) (last : Wire) : Stage → Wire → Type 0 where
@@ -96,7 +96,7 @@ ends_at_rests asked stage awaited wire fault awaits (at_message {new = old} why)
     none_is_some (fault_at also wire.place message) fault goes_on (ap (λ (a : Awaited). fault_at a wire.place message) (same_awaiting (doing asked stage) also awaited is awaits) ∙ ap (λ (m : List ℕ). fault_at awaited wire.place m) same.0 ∙ why.fault_is)
 ends_at_rests asked stage awaited wire fault awaits (at_unfit why) next new (hears {message = message} is first goes_on turns) =
     let same = (one_next wire).one_message message why.message new why.new first why.hears in
-    none_is_some (behind stage message) next (ap (λ (m : List ℕ). behind stage m) same.0 ∙ why.unfit) turns
+    none_is_some (stage_after stage message) next (ap (λ (m : List ℕ). stage_after stage m) same.0 ∙ why.unfit) turns
 ends_at_rests asked stage awaited wire fault awaits (at_disorder why) next new (hears {message = message} is first goes_on turns) = (one_next wire).message_in_order message new first why
 ends_at_rests asked stage awaited wire fault awaits (at_length {size = size} why) next new (hears {message = message} is first goes_on turns) = (one_next wire).message_is_short message new size first why
 ends_at_rests asked stage awaited wire fault awaits (at_limit why) next new (hears {message = message} is first goes_on turns) = (one_next wire).message_ends message new first why

@@ -19,7 +19,7 @@ use Rattle.dumper_cli.proofs.Calls.{Cause, Ends, logged_in, login_ends}
 use Rattle.dumper_cli.proofs.Reaching.{Rose-later}
 use Rattle.dumper_cli.proofs.Sayings.{all_is_said}
 
--- two facts behind Ok
+-- two facts after Ok
 pub on_ok_both : {T E P Q R : Type 0} (result : Result T E) → (P → Q → R) → OnOk result P → OnOk result Q → OnOk result R
 on_ok_both (Ok value) both p q = both p q
 on_ok_both (Err fault) both p q = tt
@@ -41,28 +41,28 @@ module _ {L : Type 0} (of : LinkGhosts L) (asked : Asked) where
 
 module _ {L S : Type 0} (link : LinkGhosts L) (shelf : ShelfGhosts S) (asked : Asked) where
   -- a run that broke off, where the shelves are these
-  pub Broke-at : (start : Start) (first before behind last : S) (new : L) (fault : DumpFault) → first ≡ before → last ≡ behind → Broke link shelf asked start first new behind fault → Broke link shelf asked start before new last fault
-  Broke-at start first before behind last new fault same same_too broke =
+  pub Broke-at : (start : Start) (first before after last : S) (new : L) (fault : DumpFault) → first ≡ before → last ≡ after → Broke link shelf asked start first new after fault → Broke link shelf asked start before new last fault
+  Broke-at start first before after last new fault same same_too broke =
       subst (λ (s : S). Broke link shelf asked start s new last fault) same (subst (λ (s : S). Broke link shelf asked start first new s fault) (sym same_too) broke)
 
-  -- the rows of a table, behind the query for them
-  pub Conversed-tabled : (columns : List Column) (session middle new : SessionView L) (before behind : S) → ((start : Start) → Reached link asked sends_names start session → Reached link asked (awaits_rows middle.pending.reading columns []) start middle) → Tabled link shelf asked.schema asked.table columns middle before new behind → Conversed link shelf asked session before new behind
-  Conversed-tabled columns session middle new before behind reached tabled = record {
+  -- the rows of a table, after the query for them
+  pub Conversed-tabled : (columns : List Column) (session middle new : SessionView L) (before after : S) → ((start : Start) → Reached link asked sends_names start session → Reached link asked (awaits_rows middle.pending.reading columns []) start middle) → Tabled link shelf asked.schema asked.table columns middle before new after → Conversed link shelf asked session before new after
+  Conversed-tabled columns session middle new before after reached tabled = record {
     columns = columns;
     rows = tabled.rows;
     reached = λ start at. tabled.reached asked start (reached start at);
     made = tabled.made;
   }
 
-  stopped_over : (a b : L) (before behind : S) (fault : SessionFault) → (fault ≡ Link → Rose (link.faults a) (link.faults b)) → (link.tells b → Cause asked (fresh link a) fault) → StoppedOver link shelf asked a before b behind (InSession fault)
-  stopped_over a b before behind Link rose why = rose refl
-  stopped_over a b before behind (Refused form refusal) rose why = why
-  stopped_over a b before behind (Garbled place) rose why = why
-  stopped_over a b before behind (NotProtocol10 version) rose why = why
-  stopped_over a b before behind (PluginUnsupported name) rose why = why
-  stopped_over a b before behind (TooLong size) rose why = why
-  stopped_over a b before behind StreamTooLong rose why = why
-  stopped_over a b before behind OutOfMemory rose why = tt
+  stopped_over : (a b : L) (before after : S) (fault : SessionFault) → (fault ≡ Link → Rose (link.faults a) (link.faults b)) → (link.tells b → Cause asked (fresh link a) fault) → StoppedOver link shelf asked a before b after (InSession fault)
+  stopped_over a b before after Link rose why = rose refl
+  stopped_over a b before after (Refused form refusal) rose why = why
+  stopped_over a b before after (Garbled place) rose why = why
+  stopped_over a b before after (NotProtocol10 version) rose why = why
+  stopped_over a b before after (PluginUnsupported name) rose why = why
+  stopped_over a b before after (TooLong size) rose why = why
+  stopped_over a b before after StreamTooLong rose why = why
+  stopped_over a b before after OutOfMemory rose why = tt
 
   -- a login that stopped
   pub LinkStopped-login : (a gone : L) (before : S) (fault : SessionFault) → LoginStopped link asked.user asked.password a gone fault → LinkStopped link shelf asked a before gone before (InSession fault)
@@ -73,9 +73,9 @@ module _ {L S : Type 0} (link : LinkGhosts L) (shelf : ShelfGhosts S) (asked : A
         why = stopped_over a gone before before fault stopped.failed (λ t. (ended t).why);
       }
 
-  module _ (a b : L) (session new : SessionView L) (before behind : S) (logged : LoggedIn link asked.user asked.password a session) (closes : Closes link QUIT.now new b) where
+  module _ (a b : L) (session new : SessionView L) (before after : S) (logged : LoggedIn link asked.user asked.password a session) (closes : Closes link QUIT.now new b) where
     -- the whole run
-    pub LinkDumped-conversed : IsReady new → Conversed link shelf asked session before new behind → LinkDumped link shelf asked a before b behind
+    pub LinkDumped-conversed : IsReady new → Conversed link shelf asked session before new after → LinkDumped link shelf asked a before b after
     LinkDumped-conversed ready conversed =
         let over = conversed.reached (start_of link asked a) (reached_by_login link asked a session logged) in
         record {
@@ -91,12 +91,12 @@ module _ {L S : Type 0} (link : LinkGhosts L) (shelf : ShelfGhosts S) (asked : A
           made = conversed.made;
         }
 
-    front_by : (fault : DumpFault) → Broke link shelf asked (start_of link asked a) before new.link behind fault → link.tells new.link → SaidFront asked (fresh link a) (link.told new.link).sent
+    front_by : (fault : DumpFault) → Broke link shelf asked (start_of link asked a) before new.link after fault → link.tells new.link → SaidFront asked (fresh link a) (link.told new.link).sent
     front_by (FolderNotEmpty name) broke t = absurd broke
     front_by File broke t = broke.0.front t
     front_by (InSession fault) broke t = broke.front t
 
-    why_by : (fault : SessionFault) → StoppedBy link asked (start_of link asked a) new.link fault → StoppedOver link shelf asked a before b behind (InSession fault)
+    why_by : (fault : SessionFault) → StoppedBy link asked (start_of link asked a) new.link fault → StoppedOver link shelf asked a before b after (InSession fault)
     why_by Link why = Rose-further _ _ _ why closes.later
     why_by (Refused form refusal) why = λ t. why (closes.tells.1 t)
     why_by (Garbled place) why = λ t. why (closes.tells.1 t)
@@ -106,7 +106,7 @@ module _ {L S : Type 0} (link : LinkGhosts L) (shelf : ShelfGhosts S) (asked : A
     why_by StreamTooLong why = λ t. why (closes.tells.1 t)
     why_by OutOfMemory why = tt
 
-    over_by : (fault : DumpFault) → Broke link shelf asked (start_of link asked a) before new.link behind fault → StoppedOver link shelf asked a before b behind fault
+    over_by : (fault : DumpFault) → Broke link shelf asked (start_of link asked a) before new.link after fault → StoppedOver link shelf asked a before b after fault
     over_by (FolderNotEmpty name) broke = absurd broke
     over_by File broke = broke.1
     over_by (InSession fault) broke = why_by fault broke.why
@@ -116,7 +116,7 @@ module _ {L S : Type 0} (link : LinkGhosts L) (shelf : ShelfGhosts S) (asked : A
     said_by false is t front = record { sent = (link.told new.link).sent; front = front; sent_is = elim (closes.quits is (closes.tells.1 t)) [ inl e ↦ inr e | inr e ↦ inl e.0 ] }
 
     -- a run that broke off
-    pub LinkStopped-broke : (fault : DumpFault) → ((start : Start) → Reached link asked sends_names start session → Broke link shelf asked start before new.link behind fault) → LinkStopped link shelf asked a before b behind fault
+    pub LinkStopped-broke : (fault : DumpFault) → ((start : Start) → Reached link asked sends_names start session → Broke link shelf asked start before new.link after fault) → LinkStopped link shelf asked a before b after fault
     LinkStopped-broke fault broke =
         let off = broke (start_of link asked a) (reached_by_login link asked a session logged) in
         record {

@@ -9,19 +9,19 @@ use Rattle.my_session.specs.Session.{SessionView, Pending, wire_of, IsCounted, R
 use Rattle.my_session.specs.Wire.{Hears}
 use Rattle.my_session.specs.declared.fault.SessionFault.{SessionFault}
 use Rattle.my_session.specs.declared.fault.SessionFault.TheVariants.{Link, Refused, Garbled, NotProtocol10, PluginUnsupported, TooLong, StreamTooLong, OutOfMemory}
-use Rattle.result_rows.specs.Reading.{Reading, Further, definition, row, end, after, further_of}
+use Rattle.wire_forms.specs.Reading.{Reading, Further, definition, row, end, reading_after, further_of}
 use Rattle.result_rows.specs.RowCells.{row_cells}
 use Rattle.result_rows.specs.declared.row.Row.{Row}
-use Rattle.sql_literals.specs.Literal.{Cell}
-use Rattle.sql_statements.specs.declared.command.Command.TheVariants.{NamesBinary}
-use Rattle.sql_statements.specs.declared.form.Form.{Form}
-use Rattle.sql_statements.specs.declared.form.Form.TheVariants.{Select}
-use Rattle.sql_statements.specs.declared.query.Query.TheVariants.{Columns as ColumnsQuery, Rows}
+use Rattle.sql_cells.specs.Literal.{Cell}
+use Rattle.statement_forms.specs.declared.command.Command.TheVariants.{NamesBinary}
+use Rattle.statement_forms.specs.declared.form.Form.{Form}
+use Rattle.statement_forms.specs.declared.form.Form.TheVariants.{Select}
+use Rattle.statement_forms.specs.declared.query.Query.TheVariants.{Columns as ColumnsQuery, Rows}
 use Rattle.dumper_cli.specs.Columns.{column_of, is_row_of}
 use Rattle.dumper_cli.specs.Course.{Comes, heard, at_unfit, awaiting_it}
 use Rattle.dumper_cli.specs.Next.{Keeps, HasRows}
 use Rattle.dumper_cli.specs.Run.{Start, SaidFront, Reached, StoppedBy, Halted}
-use Rattle.dumper_cli.specs.Stage.{Stage, sends_names, awaits_names, asks_columns, awaits_column_count, awaits_columns, asks_rows, awaits_row_count, awaits_rows, is_over, awaiting, doing, behind, with_column, with_columns, stage_if, behind_columns, behind_rows, column_names}
+use Rattle.dumper_cli.specs.Stage.{Stage, sends_names, awaits_names, asks_columns, awaits_column_count, awaits_columns, asks_rows, awaits_row_count, awaits_rows, is_over, awaiting, doing, stage_after, with_column, with_columns, stage_if, after_columns, after_rows, column_names}
 use Rattle.dumper_cli.specs.Words.{Asked}
 use Rattle.dumper_cli.specs.declared.column.Column.{Column}
 use Rattle.dumper_cli.proofs.Calls.{Cause, Ends, halts_ends, ran, run_ends, described, query_ends}
@@ -89,7 +89,7 @@ module _ {L : Type 0} (of : Ghosts L) (old new : SessionView L) where
 
 -- ---- the queries
 
--- rows of a SELECT are pending behind it
+-- rows of a SELECT are pending after it
 pub HasRows-asked : {L : Type 0} (new : SessionView L) (columns : ℕ) → new.has_failed ≡ false → 0 < columns → new.pending ≡ record { reading = rows_of columns; form = Select } → HasRows new
 HasRows-asked new columns alive some pending = record {
   alive = alive;
@@ -98,11 +98,11 @@ HasRows-asked new columns alive some pending = record {
   form = ap (λ (p : Pending). p.form) pending;
 }
 
-column_turns : (reading : Reading) (message : List ℕ) → further_of reading message ≡ definition → behind (awaits_columns reading []) message ≡ Some (awaits_columns (after reading definition) [])
-column_turns reading message is = ap (λ (f : Further). behind_columns reading [] f) is
+column_turns : (reading : Reading) (message : List ℕ) → further_of reading message ≡ definition → stage_after (awaits_columns reading []) message ≡ Some (awaits_columns (reading_after reading definition) [])
+column_turns reading message is = ap (λ (f : Further). after_columns reading [] f) is
 
-row_turns : (columns : List Column) (reading : Reading) (message : List ℕ) → further_of reading message ≡ definition → behind (awaits_rows reading columns []) message ≡ Some (awaits_rows (after reading definition) columns [])
-row_turns columns reading message is = ap (λ (f : Further). behind_rows reading columns [] f) is
+row_turns : (columns : List Column) (reading : Reading) (message : List ℕ) → further_of reading message ≡ definition → stage_after (awaits_rows reading columns []) message ≡ Some (awaits_rows (reading_after reading definition) columns [])
+row_turns columns reading message is = ap (λ (f : Further). after_rows reading columns [] f) is
 
 module _ {L : Type 0} (of : Ghosts L) (asked : Asked) (old new : SessionView L) where
   module _ (columns : ℕ) where
@@ -129,7 +129,7 @@ module _ {L : Type 0} (of : Ghosts L) (asked : Asked) (old new : SessionView L) 
 
 module _ {L : Type 0} (of : Ghosts L) (asked : Asked) (start : Start) (old new : SessionView L) (keeps : Keeps of old new) where
   -- a message came that a session goes on at and a dump doesn't
-  module _ (stage : Stage) (waits : doing asked stage ≡ awaiting (further Select old.pending.reading)) (message : List ℕ) (unfit : behind stage message ≡ None) where
+  module _ (stage : Stage) (waits : doing asked stage ≡ awaiting (further Select old.pending.reading)) (message : List ℕ) (unfit : stage_after stage message ≡ None) where
     unfit_ends : Hears message (wire_of of old) (wire_of of new) → further_fault Select old.place (further_of old.pending.reading message) ≡ None → Comes asked start.wire stage (wire_of of old) → Ends asked start.wire (Garbled old.place) (of.told new.link).sent
     unfit_ends hears goes_on comes = record {
       front = record { stage = stage; wire = wire_of of old; comes = comes; sent_is = hears.sent };
@@ -144,25 +144,25 @@ module _ {L : Type 0} (of : Ghosts L) (asked : Asked) (start : Start) (old new :
     column_added columns more column column_is more_is = reached_by of asked (awaits_columns old.pending.reading columns) (awaits_columns old.pending.reading more) start old new keeps (λ t comes.
         let row = hears t in
         heard comes refl row.heard (row_goes_on row.message row.row_is)
-        (ap (λ (f : Further). behind_columns old.pending.reading columns f) row.row_is ∙ ap (λ (c : Option Column). with_column (awaits_columns old.pending.reading) columns c) column_is ∙ ap (λ (l : List Column). Some (awaits_columns old.pending.reading l)) (sym more_is)))
+        (ap (λ (f : Further). after_columns old.pending.reading columns f) row.row_is ∙ ap (λ (c : Option Column). with_column (awaits_columns old.pending.reading) columns c) column_is ∙ ap (λ (l : List Column). Some (awaits_columns old.pending.reading l)) (sym more_is)))
 
     pub row_added : (columns : List Column) (rows : List (List Cell)) → is_row_of columns (row_cells found) ≡ true → Reached of asked (awaits_rows old.pending.reading columns rows) start old → Reached of asked (awaits_rows old.pending.reading columns (rows ++ row_cells found ∷ [])) start new
     row_added columns rows fits = reached_by of asked (awaits_rows old.pending.reading columns rows) (awaits_rows old.pending.reading columns (rows ++ row_cells found ∷ [])) start old new keeps (λ t comes.
         let row = hears t in
         heard comes refl row.heard (row_goes_on row.message row.row_is)
-        (ap (λ (f : Further). behind_rows old.pending.reading columns rows f) row.row_is ∙ ap (λ (b : Bool). stage_if b (awaits_rows old.pending.reading columns (rows ++ row_cells found ∷ []))) fits))
+        (ap (λ (f : Further). after_rows old.pending.reading columns rows f) row.row_is ∙ ap (λ (b : Bool). stage_if b (awaits_rows old.pending.reading columns (rows ++ row_cells found ∷ []))) fits))
 
     pub column_unfit : (columns : List Column) → column_of (row_cells found) ≡ None → Reached of asked (awaits_columns old.pending.reading columns) start old → Halted of asked start new.link (Garbled found.place)
     column_unfit columns none = halted_by of asked (awaits_columns old.pending.reading columns) start old new.link (Garbled found.place) keeps.tells keeps.later (λ e. absurd (cc)) (λ t comes.
         let row = hears t in
         subst (λ (p : ℕ). Ends asked start.wire (Garbled p) (of.told new.link).sent) (sym row.place_is)
-        (unfit_ends (awaits_columns old.pending.reading columns) refl row.message (ap (λ (f : Further). behind_columns old.pending.reading columns f) row.row_is ∙ ap (λ (c : Option Column). with_column (awaits_columns old.pending.reading) columns c) none) row.heard (row_goes_on row.message row.row_is) comes))
+        (unfit_ends (awaits_columns old.pending.reading columns) refl row.message (ap (λ (f : Further). after_columns old.pending.reading columns f) row.row_is ∙ ap (λ (c : Option Column). with_column (awaits_columns old.pending.reading) columns c) none) row.heard (row_goes_on row.message row.row_is) comes))
 
     pub row_unfit : (columns : List Column) (rows : List (List Cell)) → is_row_of columns (row_cells found) ≡ false → Reached of asked (awaits_rows old.pending.reading columns rows) start old → Halted of asked start new.link (Garbled found.place)
     row_unfit columns rows unfit = halted_by of asked (awaits_rows old.pending.reading columns rows) start old new.link (Garbled found.place) keeps.tells keeps.later (λ e. absurd (cc)) (λ t comes.
         let row = hears t in
         subst (λ (p : ℕ). Ends asked start.wire (Garbled p) (of.told new.link).sent) (sym row.place_is)
-        (unfit_ends (awaits_rows old.pending.reading columns rows) refl row.message (ap (λ (f : Further). behind_rows old.pending.reading columns rows f) row.row_is ∙ ap (λ (b : Bool). stage_if b (awaits_rows old.pending.reading columns (rows ++ row_cells found ∷ []))) unfit) row.heard (row_goes_on row.message row.row_is) comes))
+        (unfit_ends (awaits_rows old.pending.reading columns rows) refl row.message (ap (λ (f : Further). after_rows old.pending.reading columns rows f) row.row_is ∙ ap (λ (b : Bool). stage_if b (awaits_rows old.pending.reading columns (rows ++ row_cells found ∷ []))) unfit) row.heard (row_goes_on row.message row.row_is) comes))
 
     -- the run stops at a row for want of memory, or stands there
     pub row_front : (stage : Stage) → Reached of asked stage start old → of.tells new.link → SaidFront asked start.wire (of.told new.link).sent
@@ -178,7 +178,7 @@ module _ {L : Type 0} (of : Ghosts L) (asked : Asked) (start : Start) (old new :
     pub rows_end : (columns : List Column) (rows : List (List Cell)) → Reached of asked (awaits_rows old.pending.reading columns rows) start old → Reached of asked (is_over columns rows) start new
     rows_end columns rows = reached_by of asked (awaits_rows old.pending.reading columns rows) (is_over columns rows) start old new keeps (λ t comes.
         let last = hears t in
-        heard comes refl last.heard (end_goes_on last.message last.end_is) (ap (λ (f : Further). behind_rows old.pending.reading columns rows f) last.end_is))
+        heard comes refl last.heard (end_goes_on last.message last.end_is) (ap (λ (f : Further). after_rows old.pending.reading columns rows f) last.end_is))
 
     columns_so : (columns : List Column) → 0 < length columns → with_columns columns ≡ Some (asks_rows columns)
     columns_so [] some = absurd (omega arith)
@@ -191,12 +191,12 @@ module _ {L : Type 0} (of : Ghosts L) (asked : Asked) (start : Start) (old new :
     pub columns_end : (columns : List Column) → 0 < length columns → Reached of asked (awaits_columns old.pending.reading columns) start old → Reached of asked (asks_rows columns) start new
     columns_end columns some = reached_by of asked (awaits_columns old.pending.reading columns) (asks_rows columns) start old new keeps (λ t comes.
         let last = hears t in
-        heard comes refl last.heard (end_goes_on last.message last.end_is) (ap (λ (f : Further). behind_columns old.pending.reading columns f) last.end_is ∙ columns_so columns some))
+        heard comes refl last.heard (end_goes_on last.message last.end_is) (ap (λ (f : Further). after_columns old.pending.reading columns f) last.end_is ∙ columns_so columns some))
 
     pub no_columns : (columns : List Column) → length columns ≡ 0 → Reached of asked (awaits_columns old.pending.reading columns) start old → Halted of asked start new.link (Garbled old.place)
     no_columns columns none = halted_by of asked (awaits_columns old.pending.reading columns) start old new.link (Garbled old.place) keeps.tells keeps.later (λ e. absurd (cc)) (λ t comes.
         let last = hears t in
-        unfit_ends (awaits_columns old.pending.reading columns) refl last.message (ap (λ (f : Further). behind_columns old.pending.reading columns f) last.end_is ∙ columns_none columns none) last.heard (end_goes_on last.message last.end_is) comes)
+        unfit_ends (awaits_columns old.pending.reading columns) refl last.message (ap (λ (f : Further). after_columns old.pending.reading columns f) last.end_is ∙ columns_none columns none) last.heard (end_goes_on last.message last.end_is) comes)
 
   module _ (form_is : old.pending.form ≡ Select) (fault : SessionFault) (failed : fault ≡ Link → Rose (of.faults old.link) (of.faults new.link)) (halts : of.tells old.link → Halts (further old.pending.form old.pending.reading) (wire_of of old) fault (wire_of of new)) where
     pub row_halts : (stage : Stage) → doing asked stage ≡ awaiting (further Select old.pending.reading) → Reached of asked stage start old → Halted of asked start new.link fault

@@ -3,7 +3,7 @@ use Rattle.std.proofs.Common.{◌≤◌, ℕ, List, [], ◌∷◌, ◌++◌, ref
 use Rattle.link_traits.specs.declared.link.Link.{Ghosts as LinkGhosts}
 use Rattle.link_traits.specs.declared.folder.Shelf.{Ghosts as ShelfGhosts}
 use Rattle.my_session.specs.Session.{SessionView}
-use Rattle.sql_literals.specs.Literal.{Cell}
+use Rattle.sql_cells.specs.Literal.{Cell}
 use Rattle.dumper_cli.specs.Next.{RowAdded, RowsEnd, Copied, Broke}
 use Rattle.dumper_cli.specs.Run.{Start, Reached}
 use Rattle.dumper_cli.specs.Stage.{awaits_rows}
@@ -52,7 +52,7 @@ module _ {L S : Type 0} (link : LinkGhosts L) (shelf : ShelfGhosts S) where
   }
 
   -- why a run broke off, seen from an earlier state of the shelf
-  pub Broke-later : (asked : Asked) (start : Start) (before mid behind : S) (new : L) (fault : DumpFault) → shelf.faults before ≤ shelf.faults mid → Broke link shelf asked start mid new behind fault → Broke link shelf asked start before new behind fault
-  Broke-later asked start before mid behind new (FolderNotEmpty name) later broke = broke
-  Broke-later asked start before mid behind new File later broke = (broke.0, Rose-later _ _ _ later broke.1)
-  Broke-later asked start before mid behind new (InSession fault) later broke = broke
+  pub Broke-later : (asked : Asked) (start : Start) (before mid after : S) (new : L) (fault : DumpFault) → shelf.faults before ≤ shelf.faults mid → Broke link shelf asked start mid new after fault → Broke link shelf asked start before new after fault
+  Broke-later asked start before mid after new (FolderNotEmpty name) later broke = broke
+  Broke-later asked start before mid after new File later broke = (broke.0, Rose-later _ _ _ later broke.1)
+  Broke-later asked start before mid after new (InSession fault) later broke = broke

@@ -1,31 +1,31 @@
 -- What was said by the end of the rows.
 use Rattle.std.proofs.Common.{◌≡◌, ℕ, List, [], ◌∷◌, ◌++◌, Option, Some, None, Result, Ok, Err, refl, sym, ◌∙◌, ap, subst, append_assoc, inl, inr, Bool, true, false}
-use Rattle.my_login.specs.Greeting.{greeting_of}
-use Rattle.my_login.specs.Response.{response}
-use Rattle.my_login.specs.Switch.{switch_of}
-use Rattle.my_login.specs.declared.fault.LoginFault.{LoginFault}
-use Rattle.my_login.specs.declared.greeting.Greeting.{Greeting}
-use Rattle.my_login.specs.declared.switch.Switch.{Switch}
-use Rattle.my_packets.specs.Packet.{packets}
+use Rattle.wire_forms.specs.Greeting.{greeting_of}
+use Rattle.wire_forms.specs.Response.{response}
+use Rattle.wire_forms.specs.Switch.{switch_of}
+use Rattle.wire_forms.specs.declared.login_fault.LoginFault.{LoginFault}
+use Rattle.wire_forms.specs.declared.greeting.Greeting.{Greeting}
+use Rattle.wire_forms.specs.declared.switch.Switch.{Switch}
+use Rattle.wire_forms.specs.Packet.{packets}
 use Rattle.my_session.specs.Login.{password_answer, switch_answer}
 use Rattle.my_session.specs.Statements.{command_payload, query_payload}
 use Rattle.my_session.specs.Wire.{Wire}
-use Rattle.result_rows.specs.Reading.{Reading, Further, definition, row, end, refused, garbled, counted, after, further_of}
-use Rattle.result_rows.specs.Reply.{reply_of}
-use Rattle.result_rows.specs.declared.reader.Reply.{Reply}
-use Rattle.result_rows.specs.declared.reader.Reply.TheVariants.{Done, Refused, Columns as ColumnsReply}
-use Rattle.sql_literals.specs.Literal.{Cell}
-use Rattle.sql_statements.specs.Text.{query_text}
-use Rattle.sql_statements.specs.declared.command.Command.TheVariants.{SetUp, NamesBinary}
-use Rattle.sql_statements.specs.declared.query.Query.TheVariants.{Columns as ColumnsQuery, Rows}
+use Rattle.wire_forms.specs.Reading.{Reading, Further, definition, row, end, refused, garbled, columns_counted, reading_after, further_of}
+use Rattle.wire_forms.specs.Reply.{reply_of}
+use Rattle.wire_forms.specs.declared.reply.Reply.{Reply}
+use Rattle.wire_forms.specs.declared.reply.Reply.TheVariants.{Done, Refused, Columns as ColumnsReply}
+use Rattle.sql_cells.specs.Literal.{Cell}
+use Rattle.statement_forms.specs.Text.{query_text}
+use Rattle.statement_forms.specs.declared.command.Command.TheVariants.{SetUp, NamesBinary}
+use Rattle.statement_forms.specs.declared.query.Query.TheVariants.{Columns as ColumnsQuery, Rows}
 use Rattle.dumper_cli.specs.Columns.{column_of, is_row_of}
 use Rattle.dumper_cli.specs.Course.{Comes, at_start, commanded, answered, heard, AreOfLogin, AreAll, AllIsSaid}
-use Rattle.dumper_cli.specs.Stage.{Stage, awaits_greeting, sends_response, awaits_decision, sends_switch_answer, awaits_acceptance, sends_set_up, awaits_set_up, sends_names, awaits_names, asks_columns, awaits_column_count, awaits_columns, asks_rows, awaits_row_count, awaits_rows, is_over, commanding, answering, doing, behind, behind_greeting, behind_switch, behind_decision, behind_ok, behind_count, with_column, with_columns, behind_columns, stage_if, behind_rows, column_names}
+use Rattle.dumper_cli.specs.Stage.{Stage, awaits_greeting, sends_response, awaits_decision, sends_switch_answer, awaits_acceptance, sends_set_up, awaits_set_up, sends_names, awaits_names, asks_columns, awaits_column_count, awaits_columns, asks_rows, awaits_row_count, awaits_rows, is_over, commanding, answering, doing, stage_after, after_greeting, after_switch, after_decision, after_ok, after_count, with_column, with_columns, after_columns, stage_if, after_rows, column_names}
 use Rattle.dumper_cli.specs.Words.{Asked}
 use Rattle.dumper_cli.specs.declared.column.Column.{Column}
 
--- the login, and these messages behind it
-record IsBehindLogin (asked : Asked) (more sent : List (List ℕ)) : Type 0 where
+-- the login, and these messages after it
+record IsAfterLogin (asked : Asked) (more sent : List (List ℕ)) : Type 0 where
   login : List (List ℕ)
   of_login : AreOfLogin asked login
   sent_is : sent ≡ login ++ more
@@ -53,13 +53,13 @@ SaidAt asked awaits_decision sent = IsResponse asked sent
 SaidAt asked (sends_switch_answer scramble) sent = IsResponse asked sent
 SaidAt asked awaits_acceptance sent = AreOfLogin asked sent
 SaidAt asked sends_set_up sent = AreOfLogin asked sent
-SaidAt asked awaits_set_up sent = IsBehindLogin asked set_up_sent sent
-SaidAt asked sends_names sent = IsBehindLogin asked set_up_sent sent
-SaidAt asked awaits_names sent = IsBehindLogin asked names_sent sent
-SaidAt asked asks_columns sent = IsBehindLogin asked names_sent sent
-SaidAt asked awaits_column_count sent = IsBehindLogin asked (columns_sent asked) sent
-SaidAt asked (awaits_columns reading columns) sent = IsBehindLogin asked (columns_sent asked) sent
-SaidAt asked (asks_rows columns) sent = IsBehindLogin asked (columns_sent asked) sent
+SaidAt asked awaits_set_up sent = IsAfterLogin asked set_up_sent sent
+SaidAt asked sends_names sent = IsAfterLogin asked set_up_sent sent
+SaidAt asked awaits_names sent = IsAfterLogin asked names_sent sent
+SaidAt asked asks_columns sent = IsAfterLogin asked names_sent sent
+SaidAt asked awaits_column_count sent = IsAfterLogin asked (columns_sent asked) sent
+SaidAt asked (awaits_columns reading columns) sent = IsAfterLogin asked (columns_sent asked) sent
+SaidAt asked (asks_rows columns) sent = IsAfterLogin asked (columns_sent asked) sent
 SaidAt asked (awaits_row_count columns) sent = AreAll asked columns sent
 SaidAt asked (awaits_rows reading columns rows) sent = AreAll asked columns sent
 SaidAt asked (is_over columns rows) sent = AreAll asked columns sent
@@ -70,24 +70,24 @@ same_command payload other next also e = (cc, cc)
 same_answer : (payload other : List ℕ) (next also : Stage) → answering payload next ≡ answering other also → (other ≡ payload) × (also ≡ next)
 same_answer payload other next also e = (cc, cc)
 
-behind_more : (asked : Asked) (more : List (List ℕ)) (message : List ℕ) (sent : List (List ℕ)) → IsBehindLogin asked more sent → IsBehindLogin asked (more ++ message ∷ []) (sent ++ message ∷ [])
-behind_more asked more message sent so = record { login = so.login; of_login = so.of_login; sent_is = ap (λ (l : List (List ℕ)). l ++ message ∷ []) so.sent_is ∙ append_assoc so.login more (message ∷ []) }
+after_more : (asked : Asked) (more : List (List ℕ)) (message : List ℕ) (sent : List (List ℕ)) → IsAfterLogin asked more sent → IsAfterLogin asked (more ++ message ∷ []) (sent ++ message ∷ [])
+after_more asked more message sent so = record { login = so.login; of_login = so.of_login; sent_is = ap (λ (l : List (List ℕ)). l ++ message ∷ []) so.sent_is ∙ append_assoc so.login more (message ∷ []) }
 
 -- a command more
 command_said : (asked : Asked) (stage next : Stage) (payload : List ℕ) (sent : List (List ℕ)) → doing asked stage ≡ commanding payload next → SaidAt asked stage sent → SaidAt asked next (sent ++ packets 0 payload ∷ [])
 unfolding set_up_sent names_sent columns_sent
 command_said asked sends_set_up next payload sent is so =
     let same = same_command (command_payload SetUp) payload awaits_set_up next is in
-    subst (λ (s : Stage). SaidAt asked s (sent ++ packets 0 payload ∷ [])) (sym same.1) (subst (λ (p : List ℕ). IsBehindLogin asked set_up_sent (sent ++ packets 0 p ∷ [])) (sym same.0) record { login = sent; of_login = so; sent_is = refl })
+    subst (λ (s : Stage). SaidAt asked s (sent ++ packets 0 payload ∷ [])) (sym same.1) (subst (λ (p : List ℕ). IsAfterLogin asked set_up_sent (sent ++ packets 0 p ∷ [])) (sym same.0) record { login = sent; of_login = so; sent_is = refl })
 command_said asked sends_names next payload sent is so =
     let same = same_command (command_payload NamesBinary) payload awaits_names next is in
-    subst (λ (s : Stage). SaidAt asked s (sent ++ packets 0 payload ∷ [])) (sym same.1) (subst (λ (p : List ℕ). IsBehindLogin asked names_sent (sent ++ packets 0 p ∷ [])) (sym same.0) (behind_more asked set_up_sent (packets 0 (command_payload NamesBinary)) sent so))
+    subst (λ (s : Stage). SaidAt asked s (sent ++ packets 0 payload ∷ [])) (sym same.1) (subst (λ (p : List ℕ). IsAfterLogin asked names_sent (sent ++ packets 0 p ∷ [])) (sym same.0) (after_more asked set_up_sent (packets 0 (command_payload NamesBinary)) sent so))
 command_said asked asks_columns next payload sent is so =
     let same = same_command (query_payload (query_text (ColumnsQuery asked.schema asked.table))) payload awaits_column_count next is in
-    subst (λ (s : Stage). SaidAt asked s (sent ++ packets 0 payload ∷ [])) (sym same.1) (subst (λ (p : List ℕ). IsBehindLogin asked (columns_sent asked) (sent ++ packets 0 p ∷ [])) (sym same.0) (behind_more asked names_sent (packets 0 (query_payload (query_text (ColumnsQuery asked.schema asked.table)))) sent so))
+    subst (λ (s : Stage). SaidAt asked s (sent ++ packets 0 payload ∷ [])) (sym same.1) (subst (λ (p : List ℕ). IsAfterLogin asked (columns_sent asked) (sent ++ packets 0 p ∷ [])) (sym same.0) (after_more asked names_sent (packets 0 (query_payload (query_text (ColumnsQuery asked.schema asked.table)))) sent so))
 command_said asked (asks_rows columns) next payload sent is so =
     let same = same_command (query_payload (query_text (Rows (column_names columns) asked.schema asked.table))) payload (awaits_row_count columns) next is in
-    let more = behind_more asked (columns_sent asked) (packets 0 (query_payload (query_text (Rows (column_names columns) asked.schema asked.table)))) sent so in
+    let more = after_more asked (columns_sent asked) (packets 0 (query_payload (query_text (Rows (column_names columns) asked.schema asked.table)))) sent so in
     subst (λ (s : Stage). SaidAt asked s (sent ++ packets 0 payload ∷ [])) (sym same.1) (subst (λ (p : List ℕ). AreAll asked columns (sent ++ packets 0 p ∷ [])) (sym same.0) record { login = more.login; of_login = more.of_login; messages_are = more.sent_is })
 command_said asked stage next payload sent is so = absurd (cc)
 
@@ -101,7 +101,7 @@ answer_said asked (sends_switch_answer scramble) next payload id sent is so =
     subst (λ (s : Stage). SaidAt asked s (sent ++ packets id payload ∷ [])) (sym same.1) (subst (λ (p : List ℕ). AreOfLogin asked (sent ++ packets id p ∷ [])) (sym same.0) (inr (so.id, so.scramble, id, scramble, ap (λ (l : List (List ℕ)). l ++ packets id (switch_answer (password_answer asked.password scramble)) ∷ []) so.sent_is)))
 answer_said asked stage next payload id sent is so = absurd (cc)
 
--- ---- where a dump is behind a message
+-- ---- where a dump is after a message
 
 some_same : (stage next : Stage) → Some stage ≡ Some next → next ≡ stage
 some_same stage next e = cc
@@ -111,42 +111,42 @@ module _ (asked : Asked) (next : Stage) (sent : List (List ℕ)) where
   moved : (stage : Stage) → Some stage ≡ Some next → SaidAt asked stage sent → SaidAt asked next sent
   moved stage is so = subst (λ (s : Stage). SaidAt asked s sent) (sym (some_same stage next is)) so
 
-  greeted : (found : Result Greeting LoginFault) → behind_greeting found ≡ Some next → sent ≡ [] → SaidAt asked next sent
+  greeted : (found : Result Greeting LoginFault) → after_greeting found ≡ Some next → sent ≡ [] → SaidAt asked next sent
   greeted (Ok found) is so = moved (sends_response found.scramble) is so
   greeted (Err fault) is so = absurd (cc)
 
-  switched : (found : Result Switch LoginFault) → behind_switch found ≡ Some next → IsResponse asked sent → SaidAt asked next sent
+  switched : (found : Result Switch LoginFault) → after_switch found ≡ Some next → IsResponse asked sent → SaidAt asked next sent
   switched (Ok found) is so = moved (sends_switch_answer found.scramble) is so
   switched (Err fault) is so = absurd (cc)
 
-  decided : (message : List ℕ) (reply : Option Reply) → behind_decision message reply ≡ Some next → IsResponse asked sent → SaidAt asked next sent
+  decided : (message : List ℕ) (reply : Option Reply) → after_decision message reply ≡ Some next → IsResponse asked sent → SaidAt asked next sent
   decided message (Some Done) is so = moved sends_set_up is (inl (so.id, so.scramble, so.sent_is))
   decided message (Some (Refused refusal)) is so = absurd (cc)
   decided message (Some (ColumnsReply columns)) is so = switched (switch_of message) is so
   decided message None is so = switched (switch_of message) is so
 
-  accepted : (stage : Stage) (reply : Option Reply) → behind_ok stage reply ≡ Some next → SaidAt asked stage sent → SaidAt asked next sent
+  accepted : (stage : Stage) (reply : Option Reply) → after_ok stage reply ≡ Some next → SaidAt asked stage sent → SaidAt asked next sent
   accepted stage (Some Done) is so = moved stage is so
   accepted stage (Some (Refused refusal)) is so = absurd (cc)
   accepted stage (Some (ColumnsReply columns)) is so = absurd (cc)
   accepted stage None is so = absurd (cc)
 
-  numbered : (stage : Reading → Stage) (reply : Option Reply) → behind_count stage reply ≡ Some next → ((reading : Reading) → SaidAt asked (stage reading) sent) → SaidAt asked next sent
+  numbered : (stage : Reading → Stage) (reply : Option Reply) → after_count stage reply ≡ Some next → ((reading : Reading) → SaidAt asked (stage reading) sent) → SaidAt asked next sent
   numbered stage (Some Done) is so = absurd (cc)
   numbered stage (Some (Refused refusal)) is so = absurd (cc)
-  numbered stage (Some (ColumnsReply columns)) is so = moved (stage (counted columns)) is (so (counted columns))
+  numbered stage (Some (ColumnsReply columns)) is so = moved (stage (columns_counted columns)) is (so (columns_counted columns))
   numbered stage None is so = absurd (cc)
 
-  told : (reading : Reading) (columns : List Column) (column : Option Column) → with_column (awaits_columns reading) columns column ≡ Some next → IsBehindLogin asked (columns_sent asked) sent → SaidAt asked next sent
+  told : (reading : Reading) (columns : List Column) (column : Option Column) → with_column (awaits_columns reading) columns column ≡ Some next → IsAfterLogin asked (columns_sent asked) sent → SaidAt asked next sent
   told reading columns (Some column) is so = moved (awaits_columns reading (columns ++ column ∷ [])) is so
   told reading columns None is so = absurd (cc)
 
-  all_told : (columns : List Column) → with_columns columns ≡ Some next → IsBehindLogin asked (columns_sent asked) sent → SaidAt asked next sent
+  all_told : (columns : List Column) → with_columns columns ≡ Some next → IsAfterLogin asked (columns_sent asked) sent → SaidAt asked next sent
   all_told [] is so = absurd (cc)
   all_told (column ∷ columns) is so = moved (asks_rows (column ∷ columns)) is so
 
-  column_came : (reading : Reading) (columns : List Column) (further : Further) → behind_columns reading columns further ≡ Some next → IsBehindLogin asked (columns_sent asked) sent → SaidAt asked next sent
-  column_came reading columns definition is so = moved (awaits_columns (after reading definition) columns) is so
+  column_came : (reading : Reading) (columns : List Column) (further : Further) → after_columns reading columns further ≡ Some next → IsAfterLogin asked (columns_sent asked) sent → SaidAt asked next sent
+  column_came reading columns definition is so = moved (awaits_columns (reading_after reading definition) columns) is so
   column_came reading columns (row cells) is so = told reading columns (column_of cells) is so
   column_came reading columns end is so = all_told columns is so
   column_came reading columns (refused refusal) is so = absurd (cc)
@@ -156,14 +156,14 @@ module _ (asked : Asked) (next : Stage) (sent : List (List ℕ)) where
   fitting true stage is so = moved stage is so
   fitting false stage is so = absurd (cc)
 
-  row_came : (reading : Reading) (columns : List Column) (rows : List (List Cell)) (further : Further) → behind_rows reading columns rows further ≡ Some next → AreAll asked columns sent → SaidAt asked next sent
-  row_came reading columns rows definition is so = moved (awaits_rows (after reading definition) columns rows) is so
+  row_came : (reading : Reading) (columns : List Column) (rows : List (List Cell)) (further : Further) → after_rows reading columns rows further ≡ Some next → AreAll asked columns sent → SaidAt asked next sent
+  row_came reading columns rows definition is so = moved (awaits_rows (reading_after reading definition) columns rows) is so
   row_came reading columns rows (row cells) is so = fitting (is_row_of columns cells) (awaits_rows reading columns (rows ++ cells ∷ [])) is so
   row_came reading columns rows end is so = moved (is_over columns rows) is so
   row_came reading columns rows (refused refusal) is so = absurd (cc)
   row_came reading columns rows garbled is so = absurd (cc)
 
-  heard_said : (stage : Stage) (message : List ℕ) → behind stage message ≡ Some next → SaidAt asked stage sent → SaidAt asked next sent
+  heard_said : (stage : Stage) (message : List ℕ) → stage_after stage message ≡ Some next → SaidAt asked stage sent → SaidAt asked next sent
   heard_said awaits_greeting message is so = greeted (greeting_of message) is so
   heard_said awaits_decision message is so = decided message (reply_of message) is so
   heard_said awaits_acceptance message is so = accepted sends_set_up (reply_of message) is so

@@ -3,10 +3,10 @@ use Rattle.std.proofs.Common.{◌≡◌, ℕ, true, List, [], ◌∷◌, ◌++�
 use Rattle.std.proofs.lemmas.List.{map-append}
 use Rattle.std.proofs.lemmas.List.Sums.{fold-append}
 use Rattle.link_traits.specs.Contents.{File}
-use Rattle.link_traits.specs.Folder.{longer, finished}
+use Rattle.link_traits.specs.Folder.{told_after_append, files_after_finish}
 use Rattle.link_traits.specs.declared.folder.Shelf.{Ghosts}
-use Rattle.sql_literals.specs.Buffer.{BufferView}
-use Rattle.sql_literals.specs.Literal.{Cell}
+use Rattle.plain_data.specs.Buffer.{BufferView}
+use Rattle.sql_cells.specs.Literal.{Cell}
 use Rattle.dumper_cli.specs.DataFile.{Text, row_text, with_row, first_row, text_of, files_of, table_files, file_name}
 use Rattle.dumper_cli.specs.Writing.{Holds, HoldsRows, IsWriting, KeepsFile}
 use Rattle.dumper_cli.specs.declared.column.Column.{Column}
@@ -16,7 +16,7 @@ text_of-push : (head first : List ℕ) (rows : List (List ℕ)) (row : List ℕ)
 text_of-push head first rows row = fold-append (with_row head) (first_row head first) rows (row ∷ [])
 
 module _ {S : Type 0} (of : Ghosts S) where
-  -- a row behind others
+  -- a row after others
   pub HoldsRows_more : (rows : List (List ℕ)) (row : List ℕ) (old new : DataFile S of) → old.begun ≡ true → new.head.bytes ≡ old.head.bytes
       → ((text : Text) → Holds of text old → Holds of (with_row old.head.bytes text row) new)
       → HoldsRows of rows old → HoldsRows of (rows ++ row ∷ []) new
@@ -41,7 +41,7 @@ module _ {S : Type 0} (of : Ghosts S) where
 
   -- the begun file of these rows, once it is ended
   pub HoldsRows_ended : (rows : List (List ℕ)) (file : DataFile S of) (made : List File) (bytes : List ℕ) → file.begun ≡ true → of.tells file.shelf
-      → bytes ≡ file.waiting.bytes ++ codes ";\n" → made ≡ finished (longer (of.told file.shelf) bytes)
+      → bytes ≡ file.waiting.bytes ++ codes ";\n" → made ≡ files_after_finish (told_after_append (of.told file.shelf) bytes)
       → HoldsRows of rows file → made ≡ files_of file.name file.head.bytes rows
   HoldsRows_ended [] file made bytes begun tells last is holds = absurd (cc)
   HoldsRows_ended (first ∷ rows) file made bytes begun tells last is holds =
@@ -54,7 +54,7 @@ module _ {S : Type 0} (of : Ghosts S) where
 
   -- the file of a table's rows, once it is ended
   pub IsWriting_ended : (schema table : List ℕ) (columns : List Column) (rows : List (List Cell)) (file : DataFile S of) (made : List File) (bytes : List ℕ) → file.begun ≡ true → of.tells file.shelf
-      → bytes ≡ file.waiting.bytes ++ codes ";\n" → made ≡ finished (longer (of.told file.shelf) bytes)
+      → bytes ≡ file.waiting.bytes ++ codes ";\n" → made ≡ files_after_finish (told_after_append (of.told file.shelf) bytes)
       → IsWriting of schema table columns rows file → made ≡ table_files schema table columns rows
   IsWriting_ended schema table columns rows file made bytes begun tells last is writing =
       HoldsRows_ended (map (row_text columns) rows) file made bytes begun tells last is writing.text

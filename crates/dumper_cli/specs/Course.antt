@@ -1,30 +1,30 @@
 -- The course of a dump over a link, and the ways in which it ends.
 use Rattle.std.specs.Prelude.{ℕ, ◌≡◌, ◌<◌, ◌≤◌, ◌⊎◌, List, [], ◌∷◌, ◌++◌, length, Some, None}
-use Rattle.my_login.specs.Response.{response}
+use Rattle.wire_forms.specs.Response.{response}
 use Rattle.my_packets.specs.Front.{IsTooLong}
-use Rattle.my_packets.specs.Packet.{packets}
+use Rattle.wire_forms.specs.Packet.{packets}
 use Rattle.my_session.specs.Awaited.{Awaited, fault_at}
 use Rattle.my_session.specs.Halt.{Answered, OutOfOrder, IsFull}
 use Rattle.my_session.specs.Login.{password_answer, switch_answer}
 use Rattle.my_session.specs.Statements.{command_payload, query_payload}
-use Rattle.my_session.specs.Wire.{Wire, Hears, behind_sent, within}
+use Rattle.my_session.specs.Wire.{Wire, Hears, after_sent, within}
 use Rattle.my_session.specs.declared.fault.SessionFault.{SessionFault}
 use Rattle.my_session.specs.declared.fault.SessionFault.TheVariants.{Garbled, TooLong, StreamTooLong}
 use Rattle.my_session.specs.declared.limits.TheConstants.{MESSAGE_LIMIT}
-use Rattle.sql_literals.specs.Literal.{Cell}
-use Rattle.sql_statements.specs.Text.{query_text}
-use Rattle.sql_statements.specs.declared.command.Command.TheVariants.{SetUp, NamesBinary}
-use Rattle.sql_statements.specs.declared.query.Query.TheVariants.{Columns, Rows}
-use Rattle.dumper_cli.specs.Stage.{Stage, awaits_greeting, is_over, commanding, answering, awaiting, doing, behind, column_names}
+use Rattle.sql_cells.specs.Literal.{Cell}
+use Rattle.statement_forms.specs.Text.{query_text}
+use Rattle.statement_forms.specs.declared.command.Command.TheVariants.{SetUp, NamesBinary}
+use Rattle.statement_forms.specs.declared.query.Query.TheVariants.{Columns, Rows}
+use Rattle.dumper_cli.specs.Stage.{Stage, awaits_greeting, is_over, commanding, answering, awaiting, doing, stage_after, column_names}
 use Rattle.dumper_cli.specs.Words.{Asked}
 use Rattle.dumper_cli.specs.declared.column.Column.{Column}
 
 -- from this wire on a dump comes to a stage, and the wire is then that one
 pub data Comes (asked : Asked) (start : Wire) : Stage → Wire → Type 0 where
   at_start : Comes asked start awaits_greeting start
-  commanded : {stage next : Stage} {wire : Wire} {payload : List ℕ} → Comes asked start stage wire → doing asked stage ≡ commanding payload next → length payload ≤ MESSAGE_LIMIT → Comes asked start next (behind_sent 0 payload wire)
-  answered : {stage next : Stage} {wire : Wire} {payload : List ℕ} → Comes asked start stage wire → doing asked stage ≡ answering payload next → length payload ≤ MESSAGE_LIMIT → Comes asked start next (behind_sent wire.id payload wire)
-  heard : {stage next : Stage} {wire new : Wire} {message : List ℕ} {awaited : Awaited} → Comes asked start stage wire → doing asked stage ≡ awaiting awaited → Hears message wire new → fault_at awaited wire.place message ≡ None → behind stage message ≡ Some next → Comes asked start next new
+  commanded : {stage next : Stage} {wire : Wire} {payload : List ℕ} → Comes asked start stage wire → doing asked stage ≡ commanding payload next → length payload ≤ MESSAGE_LIMIT → Comes asked start next (after_sent 0 payload wire)
+  answered : {stage next : Stage} {wire : Wire} {payload : List ℕ} → Comes asked start stage wire → doing asked stage ≡ answering payload next → length payload ≤ MESSAGE_LIMIT → Comes asked start next (after_sent wire.id payload wire)
+  heard : {stage next : Stage} {wire new : Wire} {message : List ℕ} {awaited : Awaited} → Comes asked start stage wire → doing asked stage ≡ awaiting awaited → Hears message wire new → fault_at awaited wire.place message ≡ None → stage_after stage message ≡ Some next → Comes asked start next new
 
 -- the columns and all rows came
 pub record IsWhole (asked : Asked) (columns : List Column) (rows : List (List Cell)) (start : Wire) : Type 0 where
@@ -37,7 +37,7 @@ pub record IsUnfit (stage : Stage) (awaited : Awaited) (wire : Wire) : Type 0 wh
   pub new : Wire
   pub hears : Hears message wire new
   pub goes_on : fault_at awaited wire.place message ≡ None
-  pub unfit : behind stage message ≡ None
+  pub unfit : stage_after stage message ≡ None
 
 -- a payload is to be sent that is longer than a message may be
 pub record IsOverlong (asked : Asked) (stage : Stage) (size : ℕ) : Type 0 where

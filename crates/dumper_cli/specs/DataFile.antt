@@ -1,12 +1,12 @@
 -- The data file of a table's rows.
 use Rattle.std.specs.Prelude.{ℕ, ◌+◌, nat_le, if◌then◌else◌, List, [], ◌∷◌, ◌++◌, length, fold, map, codes}
 use Rattle.link_traits.specs.Contents.{File}
-use Rattle.sql_literals.specs.Literal.{Cell, literal}
-use Rattle.sql_literals.specs.Name.{quoted_name}
+use Rattle.sql_cells.specs.Literal.{Cell, literal}
+use Rattle.sql_cells.specs.Name.{quoted_name}
 use Rattle.dumper_cli.specs.declared.column.Column.{Column}
 use Rattle.dumper_cli.specs.declared.data_file.TheConstants.{PREAMBLE, STATEMENT_SIZE}
 
--- pieces one behind the other: the first behind this byte, and each later one behind a comma
+-- pieces one after the other: the first after this byte, and each later one after a comma
 abbrev pub led : ℕ → List (List ℕ) → List ℕ
 led byte [] = []
 led byte (piece ∷ pieces) = byte ∷ piece ++ led 44 pieces

@@ -5,9 +5,9 @@ use Rattle.link_traits.specs.declared.link.Link.{Ghosts as LinkGhosts}
 use Rattle.link_traits.specs.declared.folder.Shelf.{Ghosts as ShelfGhosts}
 use Rattle.my_session.specs.Session.{SessionView}
 use Rattle.my_session.specs.Wire.{IsOnward}
-use Rattle.result_rows.specs.Reading.{idle}
-use Rattle.sql_literals.specs.Literal.{Cell}
-use Rattle.sql_statements.specs.declared.form.Form.TheVariants.{Select}
+use Rattle.wire_forms.specs.Reading.{idle}
+use Rattle.sql_cells.specs.Literal.{Cell}
+use Rattle.statement_forms.specs.declared.form.Form.TheVariants.{Select}
 use Rattle.dumper_cli.specs.Run.{Start, Reached, SaidFront, Halted}
 use Rattle.dumper_cli.specs.Stage.{awaits_columns, asks_rows, awaits_rows, is_over}
 use Rattle.dumper_cli.specs.Words.{Asked}
@@ -50,7 +50,7 @@ module _ {L : Type 0} (of : LinkGhosts L) where
     pub some : 0 < length all
     pub reached : (asked : Asked) (start : Start) → Reached of asked (awaits_columns old.pending.reading columns) start old → Reached of asked (asks_rows all) start new
 
-  -- behind a row about a column, or behind the last
+  -- after a row about a column, or after the last
   abbrev pub NextColumn : Bool → List Column → SessionView L → List Column → SessionView L → Type 0
   NextColumn true columns old more new = ColumnAdded columns old more new
   NextColumn false columns old all new = ColumnsEnd columns old all new
@@ -76,16 +76,16 @@ module _ {L S : Type 0} (link : LinkGhosts L) (shelf : ShelfGhosts S) where
     pub reached : (asked : Asked) (rows : List (List Cell)) (start : Start) → Reached link asked (awaits_rows old.pending.reading columns rows) start old → Reached link asked (is_over columns rows) start new
     pub writes : (schema table : List ℕ) (rows : List (List Cell)) → IsWriting shelf schema table columns rows file → IsWriting shelf schema table columns rows new_file
 
-  -- behind a row, or behind the last
+  -- after a row, or after the last
   abbrev pub CopiesRow : Bool → List Column → SessionView L → DataFile S shelf → SessionView L → DataFile S shelf → Type 0
   CopiesRow true columns old file new new_file = RowAdded columns old file new new_file
   CopiesRow false columns old file new new_file = RowsEnd columns old file new new_file
 
   -- why a run stopped that reads rows into a file
   abbrev pub Broke : Asked → Start → S → L → S → DumpFault → Type 0
-  Broke asked start before new behind (FolderNotEmpty name) = ⊥
-  Broke asked start before new behind File = Stands link asked start new × Rose (shelf.faults before) (shelf.faults behind)
-  Broke asked start before new behind (InSession fault) = Halted link asked start new fault
+  Broke asked start before new after (FolderNotEmpty name) = ⊥
+  Broke asked start before new after File = Stands link asked start new × Rose (shelf.faults before) (shelf.faults after)
+  Broke asked start before new after (InSession fault) = Halted link asked start new fault
 
   -- all rows were read and written to the file
   pub record Copied (columns : List Column) (old : SessionView L) (file : DataFile S shelf) (new : SessionView L) (new_file : DataFile S shelf) : Type 0 where

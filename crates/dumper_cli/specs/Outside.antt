@@ -1,12 +1,12 @@
 -- A dump, seen from the site and the folder.
 use Rattle.std.specs.Prelude.{◌≡◌, ◌⊎◌, ℕ, List, [], ◌∷◌, ◌++◌, Option, Some}
 use Rattle.link_traits.specs.Contents.{File as FolderFile, IsListing}
-use Rattle.link_traits.specs.Link.{joined}
-use Rattle.link_traits.specs.Site.{Aim, SiteTold, next_of, connected, returned}
+use Rattle.link_traits.specs.Link.{concatenation}
+use Rattle.link_traits.specs.Site.{Aim, SiteTold, next_of, told_after_connect, told_after_return}
 use Rattle.my_session.specs.Wire.{Wire}
 use Rattle.my_session.specs.declared.fault.SessionFault.TheVariants.{Link, OutOfMemory}
 use Rattle.my_session.specs.declared.session.TheConstants.{QUIT}
-use Rattle.sql_literals.specs.Literal.{Cell}
+use Rattle.sql_cells.specs.Literal.{Cell}
 use Rattle.dumper_cli.specs.Course.{IsWhole, EndsWith, AreAll}
 use Rattle.dumper_cli.specs.DataFile.{table_files}
 use Rattle.dumper_cli.specs.Run.{SaidFront}
@@ -18,7 +18,7 @@ use Rattle.dumper_cli.specs.declared.dump.TheConstants.{HOST, PORT}
 
 -- what goes over the site's next link: its peer's conversation is to be heard, and nothing was sent
 abbrev pub next_wire : SiteTold → Wire
-next_wire site = record { sent = []; stream = joined (next_of site.conversations); place = 0; id = 0 }
+next_wire site = record { sent = []; stream = concatenation (next_of site.conversations); place = 0; id = 0 }
 
 -- these messages of a dump, and COM_QUIT, which may be missing only where a count rose
 pub record IsSaid (asked : Asked) (columns : List Column) (rose : Type 0) (messages sent : List (List ℕ)) : Type 0 where
@@ -29,7 +29,7 @@ pub record IsSaid (asked : Asked) (columns : List Column) (rose : Type 0) (messa
 -- came to its end by what was heard
 pub record SiteDumped (asked : Asked) (columns : List Column) (rows : List (List Cell)) (rose : Type 0) (old new : SiteTold) : Type 0 where
   pub sent : List (List ℕ)
-  pub told : new ≡ returned (connected old) sent
+  pub told : new ≡ told_after_return (told_after_connect old) sent
   pub heard : IsWhole asked columns rows (next_wire old)
   pub said_all : IsSaid asked columns rose heard.wire.sent sent
 
@@ -45,9 +45,9 @@ pub record Dumped (asked : Asked) (site_tells rose : Type 0) (old new : SiteTold
 -- said, or these and COM_QUIT, and no others
 pub data SaidAtMost (asked : Asked) (old new : SiteTold) : Type 0 where
   nothing : new ≡ old → SaidAtMost asked old new
-  no_link : new ≡ connected old → SaidAtMost asked old new
-  a_front : {sent : List (List ℕ)} → SaidFront asked (next_wire old) sent → new ≡ returned (connected old) sent → SaidAtMost asked old new
-  with_quit : {sent : List (List ℕ)} → SaidFront asked (next_wire old) sent → new ≡ returned (connected old) (sent ++ QUIT.now ∷ []) → SaidAtMost asked old new
+  no_link : new ≡ told_after_connect old → SaidAtMost asked old new
+  a_front : {sent : List (List ℕ)} → SaidFront asked (next_wire old) sent → new ≡ told_after_return (told_after_connect old) sent → SaidAtMost asked old new
+  with_quit : {sent : List (List ℕ)} → SaidFront asked (next_wire old) sent → new ≡ told_after_return (told_after_connect old) (sent ++ QUIT.now ∷ []) → SaidAtMost asked old new
 
 -- the folder lists this name first, in the order of the bytes
 pub record IsLeast (name : List ℕ) (files : List FolderFile) : Type 0 where
@@ -62,7 +62,7 @@ EndedBy NotEmpty asked site_tells site site_rose file_rose (Session Link) = site
 EndedBy NotEmpty asked site_tells site site_rose file_rose (Session OutOfMemory) = Unit {0}
 EndedBy NotEmpty asked site_tells site site_rose file_rose (Session fault) = site_tells → EndsWith asked (next_wire site) fault
 
--- what has to hold where the dump ended behind the listing of the folder
+-- what has to hold where the dump ended after the listing of the folder
 abbrev pub ComesLater : Type 0 → DumpFault → Type 0
 ComesLater P (FolderNotEmpty name) = Unit {0}
 ComesLater P File = Unit {0}

@@ -1,23 +1,23 @@
 -- How a dump goes, stage by stage.
 use Rattle.std.specs.Prelude.{ℕ, List, [], ◌∷◌, ◌++◌, map, Bool, true, false, Option, Some, None, Result, Ok, Err}
-use Rattle.my_login.specs.Greeting.{greeting_of}
-use Rattle.my_login.specs.Response.{response}
-use Rattle.my_login.specs.Switch.{switch_of}
-use Rattle.my_login.specs.declared.fault.LoginFault.{LoginFault}
-use Rattle.my_login.specs.declared.greeting.Greeting.{Greeting}
-use Rattle.my_login.specs.declared.switch.Switch.{Switch}
+use Rattle.wire_forms.specs.Greeting.{greeting_of}
+use Rattle.wire_forms.specs.Response.{response}
+use Rattle.wire_forms.specs.Switch.{switch_of}
+use Rattle.wire_forms.specs.declared.login_fault.LoginFault.{LoginFault}
+use Rattle.wire_forms.specs.declared.greeting.Greeting.{Greeting}
+use Rattle.wire_forms.specs.declared.switch.Switch.{Switch}
 use Rattle.my_session.specs.Awaited.{Awaited, greeting, decision, done, count, further}
 use Rattle.my_session.specs.Login.{password_answer, switch_answer}
 use Rattle.my_session.specs.Statements.{command_payload, query_payload}
-use Rattle.result_rows.specs.Reading.{Reading, Further, definition, row, end, refused, garbled, counted, further_of, after}
-use Rattle.result_rows.specs.Reply.{reply_of}
-use Rattle.result_rows.specs.declared.reader.Reply.{Reply}
-use Rattle.result_rows.specs.declared.reader.Reply.TheVariants.{Done, Refused, Columns}
-use Rattle.sql_literals.specs.Literal.{Cell}
-use Rattle.sql_statements.specs.Text.{query_text}
-use Rattle.sql_statements.specs.declared.command.Command.TheVariants.{SetUp, NamesBinary}
-use Rattle.sql_statements.specs.declared.form.Form.TheVariants.{Connect, Set, Select}
-use Rattle.sql_statements.specs.declared.query.Query.TheVariants.{Columns as ColumnsQuery, Rows}
+use Rattle.wire_forms.specs.Reading.{Reading, Further, definition, row, end, refused, garbled, columns_counted, further_of, reading_after}
+use Rattle.wire_forms.specs.Reply.{reply_of}
+use Rattle.wire_forms.specs.declared.reply.Reply.{Reply}
+use Rattle.wire_forms.specs.declared.reply.Reply.TheVariants.{Done, Refused, Columns}
+use Rattle.sql_cells.specs.Literal.{Cell}
+use Rattle.statement_forms.specs.Text.{query_text}
+use Rattle.statement_forms.specs.declared.command.Command.TheVariants.{SetUp, NamesBinary}
+use Rattle.statement_forms.specs.declared.form.Form.TheVariants.{Connect, Set, Select}
+use Rattle.statement_forms.specs.declared.query.Query.TheVariants.{Columns as ColumnsQuery, Rows}
 use Rattle.dumper_cli.specs.Columns.{column_of, is_row_of}
 use Rattle.dumper_cli.specs.Words.{Asked}
 use Rattle.dumper_cli.specs.declared.column.Column.{Column}
@@ -69,31 +69,31 @@ doing asked (awaits_row_count columns) = awaiting (count Select)
 doing asked (awaits_rows reading columns rows) = awaiting (further Select reading)
 doing asked (is_over columns rows) = nothing
 
-abbrev pub behind_greeting : Result Greeting LoginFault → Option Stage
-behind_greeting (Ok found) = Some (sends_response found.scramble)
-behind_greeting (Err fault) = None
+abbrev pub after_greeting : Result Greeting LoginFault → Option Stage
+after_greeting (Ok found) = Some (sends_response found.scramble)
+after_greeting (Err fault) = None
 
-abbrev pub behind_switch : Result Switch LoginFault → Option Stage
-behind_switch (Ok found) = Some (sends_switch_answer found.scramble)
-behind_switch (Err fault) = None
+abbrev pub after_switch : Result Switch LoginFault → Option Stage
+after_switch (Ok found) = Some (sends_switch_answer found.scramble)
+after_switch (Err fault) = None
 
-abbrev pub behind_decision : List ℕ → Option Reply → Option Stage
-behind_decision message (Some Done) = Some sends_set_up
-behind_decision message (Some (Refused refusal)) = None
-behind_decision message (Some (Columns columns)) = behind_switch (switch_of message)
-behind_decision message None = behind_switch (switch_of message)
+abbrev pub after_decision : List ℕ → Option Reply → Option Stage
+after_decision message (Some Done) = Some sends_set_up
+after_decision message (Some (Refused refusal)) = None
+after_decision message (Some (Columns columns)) = after_switch (switch_of message)
+after_decision message None = after_switch (switch_of message)
 
-abbrev pub behind_ok : Stage → Option Reply → Option Stage
-behind_ok next (Some Done) = Some next
-behind_ok next (Some (Refused refusal)) = None
-behind_ok next (Some (Columns columns)) = None
-behind_ok next None = None
+abbrev pub after_ok : Stage → Option Reply → Option Stage
+after_ok next (Some Done) = Some next
+after_ok next (Some (Refused refusal)) = None
+after_ok next (Some (Columns columns)) = None
+after_ok next None = None
 
-abbrev pub behind_count : (Reading → Stage) → Option Reply → Option Stage
-behind_count next (Some Done) = None
-behind_count next (Some (Refused refusal)) = None
-behind_count next (Some (Columns columns)) = Some (next (counted columns))
-behind_count next None = None
+abbrev pub after_count : (Reading → Stage) → Option Reply → Option Stage
+after_count next (Some Done) = None
+after_count next (Some (Refused refusal)) = None
+after_count next (Some (Columns columns)) = Some (next (columns_counted columns))
+after_count next None = None
 
 abbrev pub with_column : (List Column → Stage) → List Column → Option Column → Option Stage
 with_column next columns (Some column) = Some (next (columns ++ column ∷ []))
@@ -104,39 +104,39 @@ abbrev pub with_columns : List Column → Option Stage
 with_columns [] = None
 with_columns (column ∷ columns) = Some (asks_rows (column ∷ columns))
 
-abbrev pub behind_columns : Reading → List Column → Further → Option Stage
-behind_columns reading columns definition = Some (awaits_columns (after reading definition) columns)
-behind_columns reading columns (row cells) = with_column (awaits_columns reading) columns (column_of cells)
-behind_columns reading columns end = with_columns columns
-behind_columns reading columns (refused refusal) = None
-behind_columns reading columns garbled = None
+abbrev pub after_columns : Reading → List Column → Further → Option Stage
+after_columns reading columns definition = Some (awaits_columns (reading_after reading definition) columns)
+after_columns reading columns (row cells) = with_column (awaits_columns reading) columns (column_of cells)
+after_columns reading columns end = with_columns columns
+after_columns reading columns (refused refusal) = None
+after_columns reading columns garbled = None
 
 abbrev pub stage_if : Bool → Stage → Option Stage
 stage_if true stage = Some stage
 stage_if false stage = None
 
-abbrev pub behind_rows : Reading → List Column → List (List Cell) → Further → Option Stage
-behind_rows reading columns rows definition = Some (awaits_rows (after reading definition) columns rows)
-behind_rows reading columns rows (row cells) = stage_if (is_row_of columns cells) (awaits_rows reading columns (rows ++ cells ∷ []))
-behind_rows reading columns rows end = Some (is_over columns rows)
-behind_rows reading columns rows (refused refusal) = None
-behind_rows reading columns rows garbled = None
+abbrev pub after_rows : Reading → List Column → List (List Cell) → Further → Option Stage
+after_rows reading columns rows definition = Some (awaits_rows (reading_after reading definition) columns rows)
+after_rows reading columns rows (row cells) = stage_if (is_row_of columns cells) (awaits_rows reading columns (rows ++ cells ∷ []))
+after_rows reading columns rows end = Some (is_over columns rows)
+after_rows reading columns rows (refused refusal) = None
+after_rows reading columns rows garbled = None
 
--- where the dump is behind a message that a session goes on at; None where the dump doesn't: a column that can't be dumped, a table without columns, a row of other cells
-abbrev pub behind : Stage → List ℕ → Option Stage
-behind awaits_greeting message = behind_greeting (greeting_of message)
-behind (sends_response scramble) message = None
-behind awaits_decision message = behind_decision message (reply_of message)
-behind (sends_switch_answer scramble) message = None
-behind awaits_acceptance message = behind_ok sends_set_up (reply_of message)
-behind sends_set_up message = None
-behind awaits_set_up message = behind_ok sends_names (reply_of message)
-behind sends_names message = None
-behind awaits_names message = behind_ok asks_columns (reply_of message)
-behind asks_columns message = None
-behind awaits_column_count message = behind_count (λ reading. awaits_columns reading []) (reply_of message)
-behind (awaits_columns reading columns) message = behind_columns reading columns (further_of reading message)
-behind (asks_rows columns) message = None
-behind (awaits_row_count columns) message = behind_count (λ reading. awaits_rows reading columns []) (reply_of message)
-behind (awaits_rows reading columns rows) message = behind_rows reading columns rows (further_of reading message)
-behind (is_over columns rows) message = None
+-- where the dump is after a message that a session goes on at; None where the dump doesn't: a column that can't be dumped, a table without columns, a row of other cells
+abbrev pub stage_after : Stage → List ℕ → Option Stage
+stage_after awaits_greeting message = after_greeting (greeting_of message)
+stage_after (sends_response scramble) message = None
+stage_after awaits_decision message = after_decision message (reply_of message)
+stage_after (sends_switch_answer scramble) message = None
+stage_after awaits_acceptance message = after_ok sends_set_up (reply_of message)
+stage_after sends_set_up message = None
+stage_after awaits_set_up message = after_ok sends_names (reply_of message)
+stage_after sends_names message = None
+stage_after awaits_names message = after_ok asks_columns (reply_of message)
+stage_after asks_columns message = None
+stage_after awaits_column_count message = after_count (λ reading. awaits_columns reading []) (reply_of message)
+stage_after (awaits_columns reading columns) message = after_columns reading columns (further_of reading message)
+stage_after (asks_rows columns) message = None
+stage_after (awaits_row_count columns) message = after_count (λ reading. awaits_rows reading columns []) (reply_of message)
+stage_after (awaits_rows reading columns rows) message = after_rows reading columns rows (further_of reading message)
+stage_after (is_over columns rows) message = None

@@ -4,8 +4,8 @@ use Rattle.link_traits.specs.Contents.{File as FolderFile}
 use Rattle.link_traits.specs.Site.{SiteTold}
 use Rattle.my_session.specs.declared.fault.SessionFault.{SessionFault}
 use Rattle.my_session.specs.declared.fault.SessionFault.TheVariants.{Link, Refused, Garbled, NotProtocol10, PluginUnsupported, TooLong, StreamTooLong, OutOfMemory}
-use Rattle.result_rows.specs.declared.refusal.Refusal.{Refusal}
-use Rattle.sql_statements.specs.declared.form.Form.{Form}
+use Rattle.wire_forms.specs.declared.refusal.Refusal.{Refusal}
+use Rattle.statement_forms.specs.declared.form.Form.{Form}
 use Rattle.dumper_cli.specs.Course.{EndsWith}
 use Rattle.dumper_cli.specs.Outside.{next_wire, IsLeast}
 use Rattle.dumper_cli.specs.Words.{Asked}

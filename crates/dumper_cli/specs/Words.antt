@@ -2,7 +2,7 @@
 use Rattle.std.specs.Prelude.{ℕ, ◌==◌, ◌&&◌, ◌||◌, not, nat_le, bytes_eq, Bool, true, false, List, [], ◌∷◌, length, Option, Some, None, codes}
 use Rattle.std.specs.Option.{option_or}
 use Rattle.std.specs.List.{list_all}
-use Rattle.sql_literals.specs.Number.{is_digit}
+use Rattle.sql_cells.specs.Number.{is_digit}
 
 -- the account and its password, the schema and the table that are named, and the folder's path
 pub record Asked : Type 0 where
@@ -45,11 +45,11 @@ abbrev pub without_password : List (List ℕ) → Option Asked
 without_password (a ∷ user ∷ b ∷ schema ∷ c ∷ table ∷ d ∷ path ∷ []) = asked_if (are_options a b c d && are_words (record { user = user; password = []; schema = schema; table = table; path = path })) (record { user = user; password = []; schema = schema; table = table; path = path })
 without_password words = None
 
--- the same with `-p PASSWORD` behind the user
+-- the same with `-p PASSWORD` after the user
 abbrev pub with_password : List (List ℕ) → Option Asked
 with_password (a ∷ user ∷ p ∷ password ∷ b ∷ schema ∷ c ∷ table ∷ d ∷ path ∷ []) = asked_if (are_options a b c d && is_password p password && are_words (record { user = user; password = password; schema = schema; table = table; path = path })) (record { user = user; password = password; schema = schema; table = table; path = path })
 with_password words = None
 
--- exactly the eight words `-u USER -B SCHEMA -T TABLE -o PATH`, or ten with `-p PASSWORD` behind the user
+-- exactly the eight words `-u USER -B SCHEMA -T TABLE -o PATH`, or ten with `-p PASSWORD` after the user
 abbrev pub asked_of : List (List ℕ) → Option Asked
 asked_of words = option_or (without_password words) (with_password words)

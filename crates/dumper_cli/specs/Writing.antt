@@ -1,7 +1,7 @@
 -- A data file that is being written.
 use Rattle.std.specs.Prelude.{◌≡◌, ◌≤◌, ◌↔◌, ℕ, true, false, List, [], ◌∷◌, ◌++◌, length, map}
 use Rattle.link_traits.specs.declared.folder.Shelf.{Ghosts}
-use Rattle.sql_literals.specs.Literal.{Cell}
+use Rattle.sql_cells.specs.Literal.{Cell}
 use Rattle.dumper_cli.specs.DataFile.{Text, row_text, insert_head, text_of, file_name}
 use Rattle.dumper_cli.specs.declared.column.Column.{Column}
 use Rattle.dumper_cli.specs.declared.data_file.DataFile.{DataFile}

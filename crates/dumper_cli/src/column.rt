@@ -3,10 +3,11 @@ ghost use Rattle.std.specs.Prelude.{◌≡◌, true, false, IfOk, MatchOption, b
 ghost use Rattle.std.specs.List.{list_any};
 ghost use Rattle.result_rows.specs.RowCells.{row_cells};
 ghost use Rattle.dumper_cli.specs.Columns.{kind_of, is_utf8, described, column_of};
-ghost use Rattle.honest_server.specs.Answer.{holds, says_generated};
+ghost use Rattle.honest_server.specs.Answer.{has_bytes, says_generated};
 
+use plain_data::{Name, OutOfMemory, Plain, PlainList};
 use result_rows::Row;
-use sql_literals::{CellKind, Name, OutOfMemory, Plain, PlainList};
+use sql_cells::CellKind;
 use std::alloc::Global;
 
 // Types whose cells are written as numbers.
@@ -76,7 +77,7 @@ fn kind_of(data_type: &[u8]) -> Option<CellKind>
 
 // Whether the bytes hold these bytes at some place.
 fn holds(needle: &[u8], bytes: &[u8]) -> bool
-    ensures { result ≡ holds needle.now bytes.now }
+    ensures { result ≡ has_bytes needle.now bytes.now }
 {
     let mut rest = bytes;
     'places: while let [_, later @ ..] = rest {

@@ -12,7 +12,7 @@ use crate::words::Words;
 use link_traits::Link;
 use my_session::{Reads, Session, SessionFault};
 use result_rows::Row;
-use sql_statements::{Part, Query};
+use statement_forms::{Part, Query};
 use std::alloc::Global;
 
 // Asks for the columns.

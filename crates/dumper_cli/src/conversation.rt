@@ -15,8 +15,8 @@ use crate::fault::DumpFault;
 use crate::words::Words;
 use link_traits::{Link, Shelf};
 use my_session::{Session, SessionFault};
-use sql_literals::Name;
-use sql_statements::Command;
+use plain_data::Name;
+use statement_forms::Command;
 use std::alloc::Global;
 
 // Asks for texts as they are stored.

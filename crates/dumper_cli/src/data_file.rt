@@ -1,7 +1,7 @@
 // The data file of a table.
 ghost use Rattle.std.specs.Prelude.{◌≡◌, ◌<◌, ◌≤◌, ◌↔◌, ◌∷◌, ◌++◌, [], ℕ, List, true, false, length, IfOk, IfErr, OnOk, OnErr};
 ghost use Rattle.link_traits.specs.Cause.{Rose, HasCause};
-ghost use Rattle.link_traits.specs.Folder.{longer, finished};
+ghost use Rattle.link_traits.specs.Folder.{told_after_append, files_after_finish};
 ghost use Rattle.result_rows.specs.RowCells.{row_cells};
 ghost use Rattle.dumper_cli.specs.Columns.{is_row_of};
 ghost use Rattle.dumper_cli.specs.DataFile.{Text, row_text, first_row, with_row, insert_head, file_name, table_files};
@@ -9,8 +9,9 @@ ghost use Rattle.dumper_cli.specs.DataFile.{Text, row_text, first_row, with_row,
 use crate::column::Column;
 use crate::row_text::{RowFault, bytes_into, later_row_into, names_into, row_into, statement_into};
 use link_traits::{FolderFailed, Shelf};
+use plain_data::{Buffer, Name, OutOfMemory};
 use result_rows::Row;
-use sql_literals::{Buffer, Name, OutOfMemory, name_into};
+use sql_literals::name_into;
 use std::alloc::{AllocError, Global};
 
 /// The lines that a data file begins with.
@@ -96,7 +97,7 @@ fn finish<S: Shelf>(shelf: &mut S, bytes: &[u8]) -> Result<(), FolderFailed>
     requires { S.is_begun shelf.old ≡ true }
 
     ensures tells { S.tells shelf.old ↔ S.tells shelf.new }
-    ensures ok { OnOk result (S.tells shelf.old → (S.told shelf.new).made ≡ finished (longer (S.told shelf.old) bytes.now)) }
+    ensures ok { OnOk result (S.tells shelf.old → (S.told shelf.new).made ≡ files_after_finish (told_after_append (S.told shelf.old) bytes.now)) }
     ensures err { OnErr result (S.tells shelf.old → (S.told shelf.new).made ≡ (S.told shelf.old).made) }
     ensures cause { HasCause (S.faults shelf.old) (S.faults shelf.new) result }
 {
@@ -105,7 +106,7 @@ fn finish<S: Shelf>(shelf: &mut S, bytes: &[u8]) -> Result<(), FolderFailed>
 }
 
 impl<S: Shelf> DataFile<S> {
-    ghost use Rattle.sql_literals.specs.Literal.{Cell};
+    ghost use Rattle.sql_cells.specs.Literal.{Cell};
     ghost use Rattle.dumper_cli.specs.Writing.{Holds, HoldsRows, IsWriting, KeepsFile, IsSame};
 
     /// The file of a table's rows before there is one. It is refused only for want of memory, and gives
@@ -185,7 +186,7 @@ impl<S: Shelf> DataFile<S> {
         Ok(())
     }
 
-    // Adds the row that was spelled behind others.
+    // Adds the row that was spelled after others.
     fn go_on(&mut self) -> Result<(), WriteFault>
         ensures kept { KeepsFile S.Shelf self.old self.new }
         ensures begun { self.new.begun ≡ self.old.begun }

@@ -9,7 +9,7 @@ use crate::fault::DumpFault;
 use crate::words::Words;
 use link_traits::{Folder, ListFault, Shelf, Site};
 use my_session::SessionFault;
-use sql_literals::Name;
+use plain_data::Name;
 use std::alloc::Global;
 
 /// The server's name and port.

@@ -1,6 +1,6 @@
 // Why a dump ended.
 use my_session::SessionFault;
-use sql_literals::Name;
+use plain_data::Name;
 
 /// Why a dump ended before its end.
 #[derive(Debug, Drop)]

@@ -1,15 +1,17 @@
 // The text of names, rows and statements.
 ghost use Rattle.std.specs.Prelude.{◌≡◌, ◌↔◌, ◌≤◌, ◌+◌, ◌∷◌, [], ◌++◌, length, codes, false, true, IfOk, OnOk, OnErr, IsErrOf, option_copied};
 ghost use Rattle.result_rows.specs.RowCells.{row_cells};
-ghost use Rattle.sql_literals.specs.Literal.{literal, has_literal};
-ghost use Rattle.sql_literals.specs.Name.{quoted_name};
+ghost use Rattle.sql_cells.specs.Literal.{literal, has_literal};
+ghost use Rattle.sql_cells.specs.Name.{quoted_name};
 ghost use Rattle.dumper_cli.specs.Columns.{is_row_of};
 ghost use Rattle.dumper_cli.specs.DataFile.{led, quoted_names, literals, row_text, with_row};
 
 use crate::column::Column;
 use crate::data_file::STATEMENT_SIZE;
+use plain_data::{Buffer, OutOfMemory};
 use result_rows::Row;
-use sql_literals::{Buffer, CellFault, CellKind, OutOfMemory, cell_into, name_into};
+use sql_cells::CellKind;
+use sql_literals::{CellFault, cell_into, name_into};
 
 /// Why a row's text wasn't written.
 #[derive(Clone, Copy, Debug)]
@@ -40,31 +42,31 @@ fn byte_into(byte: u8, out: &mut Buffer) -> Result<(), OutOfMemory>
     Ok(())
 }
 
-// Appends a quoted name behind what leads it.
-fn name_behind(lead: u8, name: &[u8], out: &mut Buffer) -> Result<(), OutOfMemory>
+// Appends a quoted name after what leads it.
+fn name_after(lead: u8, name: &[u8], out: &mut Buffer) -> Result<(), OutOfMemory>
     ensures { OnOk result (out.new.bytes ≡ out.old.bytes ++ lead ∷ quoted_name name.now) }
 {
     byte_into(lead, out)?;
     name_into(name, out)
 }
 
-/// Appends the names of the columns between backquotes, the first behind `lead` and each later one
-/// behind a comma. It is refused only for want of memory. After a refusal some may be appended.
+/// Appends the names of the columns between backquotes, the first after `lead` and each later one
+/// after a comma. It is refused only for want of memory. After a refusal some may be appended.
 pub fn names_into(lead: u8, columns: &[Column], out: &mut Buffer) -> Result<(), OutOfMemory>
     ensures { OnOk result (out.new.bytes ≡ out.old.bytes ++ led lead (quoted_names columns.now)) }
 {
     let mut lead = lead;
     for column in columns {
-        name_behind(lead, column.name.as_slice(), out)?;
+        name_after(lead, column.name.as_slice(), out)?;
         lead = b',';
     }
     Ok(())
 }
 
-// Appends the literal of a cell behind what leads it. A cell that isn't a number is told also where
+// Appends the literal of a cell after what leads it. A cell that isn't a number is told also where
 // memory runs out.
 #[inline]
-fn cell_behind(
+fn cell_after(
     lead: u8,
     kind: CellKind,
     cell: Option<&[u8]>,
@@ -78,7 +80,7 @@ fn cell_behind(
     begun.map_err(|_| CellFault::OutOfMemory)
 }
 
-// Appends the literals of a row's cells, the first behind `(` and each later one behind a comma.
+// Appends the literals of a row's cells, the first after `(` and each later one after a comma.
 // All cells are seen, also where memory runs out.
 fn cells_into(columns: &[Column], row: &Row<'_>, out: &mut Buffer) -> Result<(), RowFault>
     ensures ok { OnOk result (out.new.bytes ≡ out.old.bytes ++ led 40 (literals columns.now (row_cells row.now))) }
@@ -91,7 +93,7 @@ fn cells_into(columns: &[Column], row: &Row<'_>, out: &mut Buffer) -> Result<(),
         let Some(cell) = cells.next() else {
             return Err(RowFault::Mismatch);
         };
-        match cell_behind(lead, column.kind, cell, out) {
+        match cell_after(lead, column.kind, cell, out) {
             Ok(()) => {}
             Err(CellFault::NotANumber) => return Err(RowFault::Mismatch),
             Err(CellFault::OutOfMemory) => fits = false,
@@ -119,7 +121,7 @@ pub fn row_into(columns: &[Column], row: &Row<'_>, out: &mut Buffer) -> Result<(
     byte_into(b')', out).map_err(|_| RowFault::OutOfMemory)
 }
 
-/// Appends a statement's first row behind what leads the statement, and answers how many bytes the
+/// Appends a statement's first row after what leads the statement, and answers how many bytes the
 /// statement has then. It is refused only for want of memory, and appends nothing then.
 pub fn statement_into(
     lead: &[u8],
@@ -157,7 +159,7 @@ fn continued_into(size: usize, row: &[u8], out: &mut Buffer) -> Result<usize, Ou
     Ok(size + 2 + row.len())
 }
 
-/// Appends a row behind others, where the last statement has so many bytes, and answers how many the
+/// Appends a row after others, where the last statement has so many bytes, and answers how many the
 /// last one has then. The row goes into that statement where it stays within its limit, and else begins
 /// the next one. It is refused only for want of memory, and appends nothing then.
 pub fn later_row_into(

@@ -3,8 +3,8 @@ ghost use Rattle.std.specs.Prelude.{◌≡◌, IfOk};
 ghost use Rattle.dumper_cli.specs.Stage.{column_names};
 
 use crate::column::Column;
-use sql_literals::OutOfMemory;
-use sql_statements::{Part, PartList};
+use plain_data::OutOfMemory;
+use statement_forms::{Part, PartList};
 use std::alloc::Global;
 
 /// The names of the columns.

@@ -11,7 +11,7 @@ use crate::fault::DumpFault;
 use crate::words::{Words, read_words};
 use link_traits::{Clock, Folder, Sink, Site};
 use my_session::SessionFault;
-use sql_literals::NameList;
+use plain_data::NameList;
 use std::alloc::Global;
 use std::thread::Threads;
 
@@ -43,8 +43,8 @@ fn exit_status(ended: &Result<(), DumpFault>) -> u8
     }
 }
 
-/// Dumps one table: `words` are those of the command line behind the program's name, exactly
-/// `-u USER -B SCHEMA -T TABLE -o PATH`, or the same with `-p PASSWORD` behind the user. The login is
+/// Dumps one table: `words` are those of the command line after the program's name, exactly
+/// `-u USER -B SCHEMA -T TABLE -o PATH`, or the same with `-p PASSWORD` after the user. The login is
 /// by `mysql_native_password`. Answers the exit status: 0 where the table was dumped; 1 where the
 /// folder isn't empty, a message of the server isn't read in its place, its protocol or its plugin
 /// isn't supported, a message is too long, or a session has had 2^62 bytes; 2 where the words are
@@ -75,7 +75,7 @@ pub fn mydumper<R: Threads + Sync, S: Site, F: Folder, O: Sink, C: Clock>(
     ensures dumped { (asked : _) → asked_of words.now ≡ Some asked → result ≡ 0 → Dumped asked (S.tells site.old) (Rose (S.faults site.old) (S.faults site.new)) (S.told site.old) (S.told site.new) (F.tells folder.old) (F.contents folder.old) (F.contents folder.new) }
     ensures aimed { (asked : _) → asked_of words.now ≡ Some asked → result ≡ 0 → AimsAt asked (S.aim_of site.new) (F.path_of folder.new) }
 
-    // Any other status: its cause, and what stands behind it.
+    // Any other status: its cause, and what stands after it.
     ensures causes { (asked : _) → asked_of words.now ≡ Some asked → IsCaused asked (S.tells site.old) (S.told site.old) (Rose (S.faults site.old) (S.faults site.new)) (F.tells folder.old) (F.contents folder.old) (Rose (F.faults folder.old) (F.faults folder.new)) result }
     // What the server sends into an empty folder has its status, but where the site or the folder
     // failed or memory ran out.

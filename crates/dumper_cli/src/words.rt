@@ -4,7 +4,7 @@ ghost use Rattle.std.specs.List.{list_all};
 ghost use Rattle.dumper_cli.specs.AskedBy.{asked_by};
 ghost use Rattle.dumper_cli.specs.Words.{is_word_byte, is_plain_word, is_free_word, are_options, is_password, are_words, without_password, with_password, asked_of};
 
-use sql_literals::{Name, NameList};
+use plain_data::{Name, NameList};
 
 /// What a command line asks for, lent out of its words.
 #[derive(Clone, Copy)]
@@ -115,7 +115,7 @@ fn with_password(words: &[Name]) -> Option<Words<'_>>
 }
 
 /// Reads the words of a command line: exactly the eight words `-u USER -B SCHEMA -T TABLE -o PATH`, or
-/// ten with `-p PASSWORD` behind the user. User, schema and table are one to a hundred ASCII letters,
+/// ten with `-p PASSWORD` after the user. User, schema and table are one to a hundred ASCII letters,
 /// digits and `_`; the password and the path aren't empty and don't begin with `-`. `None` exactly
 /// where the words are others. Takes no memory.
 pub fn read_words(words: &NameList) -> Option<Words<'_>>

@@ -13,7 +13,7 @@ later-cons c d e a x b y m head p q = later e m (cc) q
 earlier-cons : (c d e : ℕ) (a x b y m : List ℕ) → c ≡ d → a ≡ b ++ e ∷ m → y ≡ e ∷ m ++ x → Cuts (c ∷ a) x (d ∷ b) y
 earlier-cons c d e a x b y m head p q = earlier e m (cc) q
 
--- Two divisions of one list are the same, or the second lies behind or before the first.
+-- Two divisions of one list are the same, or the second lies after or before the first.
 pub cuts : (a x b y : List ℕ) → a ++ x ≡ b ++ y → Cuts a x b y
 cuts [] x [] y e = same refl e
 cuts [] x (c ∷ m) y e = later c m refl e

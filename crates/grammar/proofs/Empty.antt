@@ -24,10 +24,10 @@ unfolding Then Next
 no_empty_then A B no_empty = no_empty_next A (λ _. B) no_empty
 
 -- A row whose second text isn't empty isn't empty.
-pub no_empty_behind : (A B : Language) → ¬ B [] → ¬ Then A B []
+pub no_empty_after : (A B : Language) → ¬ B [] → ¬ Then A B []
 unfolding Then
-no_empty_behind A B no_empty ([], b, e, left, right) = no_empty (subst B (sym e) right)
-no_empty_behind A B no_empty (c ∷ a, b, e, left, right) = cc
+no_empty_after A B no_empty ([], b, e, left, right) = no_empty (subst B (sym e) right)
+no_empty_after A B no_empty (c ∷ a, b, e, left, right) = cc
 
 -- A fixed text is some text.
 pub begins_fixed : (word : List ℕ) → Begins (Fixed word) []

@@ -8,7 +8,7 @@ use Rattle.grammar.proofs.Rows.{Apart, NextApart, then_read, next_read, next_bro
 use Rattle.grammar.proofs.Choices.{reads_same, reads_nothing}
 use Rattle.grammar.proofs.Repeats.{many_more, many_stuck, many_end, times_more}
 
--- reading what is left behind `at` bytes as M is reading all as L
+-- reading what is left after `at` bytes as M is reading all as L
 pub record Onward (L M : Language) (s : List ℕ) (at : ℕ) : Type 0 where
   pub within : at ≤ length s
   pub goes : (r : Result ℕ ℕ) → Reads M (drop at s) r → Reads L s (shift at r)
@@ -36,17 +36,17 @@ onward_same L A B s at to back onward = record {
 }
 
 -- k bytes are read as a text of B, and what is left of A is C
-behind_read : (L A B : Language) (s : List ℕ) (at k : ℕ) (r : Result ℕ ℕ) → Onward L A s at → Reads B (take (length s - at) (drop at s)) r → r ≡ Ok k → (C : Language) → ((q : Result ℕ ℕ) → Reads C (drop k (drop at s)) q → Reads A (drop at s) (shift k q)) → Onward L C s (at + k)
-behind_read L A B s at k r onward reads is C both = record {
+after_read : (L A B : Language) (s : List ℕ) (at k : ℕ) (r : Result ℕ ℕ) → Onward L A s at → Reads B (take (length s - at) (drop at s)) r → r ≡ Ok k → (C : Language) → ((q : Result ℕ ℕ) → Reads C (drop k (drop at s)) q → Reads A (drop at s) (shift k q)) → Onward L C s (at + k)
+after_read L A B s at k r onward reads is C both = record {
   within = omega (arith, onward.within, read_within B (drop at s) k (Ok k) (reads_rest B s at r (Ok k) reads is) refl, length-drop at s);
   goes = λ q rest. subst (Reads L s) (shift_twice at k q) (onward.goes (shift k q) (both q (subst (λ t. Reads C t q) (sym (drop-drop k at s)) rest)));
 }
 
--- different parts one behind another
+-- different parts one after another
 
 -- A part is read: what it asks for is left.
 pub onward_next : (L A : Language) (B : List ℕ → Language) (s : List ℕ) (at k : ℕ) (r : Result ℕ ℕ) → Onward L (Next A B) s at → NextApart A B → Reads A (take (length s - at) (drop at s)) r → r ≡ Ok k → Onward L (B (take k (drop at s))) s (at + k)
-onward_next L A B s at k r onward apart reads is = behind_read L (Next A B) A s at k r onward reads is (B (take k (drop at s)))
+onward_next L A B s at k r onward apart reads is = after_read L (Next A B) A s at k r onward reads is (B (take k (drop at s)))
     (λ q rest. next_read A B (drop at s) k q apart (reads_rest A s at r (Ok k) reads is) rest)
 
 -- A part is refused, and with it all.
@@ -89,7 +89,7 @@ onward_answer L A s at r q onward reads is = subst (Reads L s) (sym is) (onward_
 pub onward_done : (L : Language) (s : List ℕ) (at : ℕ) → Onward L Nothing s at → Reads L s (Ok at)
 onward_done L s at onward = subst (λ n. Reads L s (Ok n)) (add-zero at) (onward.goes (Ok 0) (reads_nothing (drop at s)))
 
--- Nothing more is left behind the last part.
+-- Nothing more is left after the last part.
 pub onward_alone : (L A : Language) (s : List ℕ) (at : ℕ) → Onward L A s at → Onward L (Then A Nothing) s at
 unfolding Then Nothing
 onward_alone L A s at onward = onward_same L A (Then A Nothing) s at
@@ -136,7 +136,7 @@ onward_none L A B s at onward = onward_same L (Then (Times A 0) B) B s at
 
 -- One more is read.
 pub onward_more : (A L : Language) (s : List ℕ) (at k : ℕ) (r : Result ℕ ℕ) → Apart A (Many A) → ¬ A [] → Onward L (Many A) s at → Reads A (take (length s - at) (drop at s)) r → r ≡ Ok k → Onward L (Many A) s (at + k)
-onward_more A L s at k r apart no_empty onward reads is = behind_read L (Many A) A s at k r onward reads is (Many A)
+onward_more A L s at k r apart no_empty onward reads is = after_read L (Many A) A s at k r onward reads is (Many A)
     (λ q rest. many_more A (drop at s) k q apart (read_some A _ k r no_empty reads is) (reads_rest A s at r (Ok k) reads is) rest)
 
 -- No further one is begun.

@@ -23,7 +23,7 @@ begins_front L a b text = (b, text)
 pub begins_text : (L : Language) (t : List ℕ) → L t → Begins L t
 begins_text L t text = begins_front L t [] (subst L (sym (append-nil t)) text)
 
--- `&s[p..]` is what is left behind p bytes.
+-- `&s[p..]` is what is left after p bytes.
 pub rest_of : (s : List ℕ) (p : ℕ) → take (length s - p) (drop p s) ≡ drop p s
 rest_of s p = take_all (length s - p) (drop p s) (omega (arith, length-drop p s))
 

@@ -56,7 +56,7 @@ unfolding Begins Times Nothing
 begins_times L zero some = ([], refl)
 begins_times L (suc n) some = begins_then L (Times L n) some (begins_times L n some)
 
--- One more text at the front goes before what is read behind it.
+-- One more text at the front goes before what is read after it.
 pub many_more : (L : Language) (s : List ℕ) (p : ℕ) (r : Result ℕ ℕ) → Apart L (Many L) → 0 < p → Reads L s (Ok p) → Reads (Many L) (drop p s) r → Reads (Many L) s (shift p r)
 many_more L s p r apart some first rest =
     reads_same (Or (Then L (Many L)) Nothing) (Many L) s (shift p r) (many_join L) (many_split L) (with_nothing r (then_read L (Many L) s p r apart first rest)) where

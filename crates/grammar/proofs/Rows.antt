@@ -1,4 +1,4 @@
--- Texts in a row: a first one, and behind it a second, which may depend on the first.
+-- Texts in a row: a first one, and after it a second, which may depend on the first.
 use Rattle.std.proofs.Common.{◌≡◌, ℕ, ◌+◌, ◌-◌, ◌≤◌, List, [], ◌∷◌, ◌++◌, length, take, drop, refl, sym, ◌∙◌, ap, subst, arith, append_assoc, append-nil, length-append, take-add, Result, Ok, Err}
 use Rattle.std.proofs.lemmas.List.{take-append-drop, length-take-le}
 use Rattle.grammar.specs.Language.{Language, Begins, IsPlace, Reads, Then, Next}
@@ -7,7 +7,7 @@ use Rattle.grammar.proofs.Cuts.{cuts}
 use Rattle.grammar.proofs.Cuts.Cuts.{same, later, earlier}
 use Rattle.grammar.proofs.Places.{Stops, begins_less, begins_front, reads_rest, place_of, stops_of_place, broken_of}
 
--- what begins a text behind a text of A doesn't lengthen that text
+-- what begins a text after a text of A doesn't lengthen that text
 unfoldable pub NextApart : Language → (List ℕ → Language) → Type 0
 NextApart A B = (x : List ℕ) (c : ℕ) (y : List ℕ) → A x → B x (c ∷ y) → ¬ Begins A (x ++ c ∷ [])
 
@@ -25,7 +25,7 @@ second_of_row A B f t apart begins turns (x, y, split, left, right) =
       | earlier c m p e ↦ absurd (apart x c (m ++ t) left (subst (B x) e right) (begins_less A (x ++ c ∷ []) m (subst (Begins A) (p ∙ sym (append_assoc x (c ∷ []) m)) begins)))
     ]
 
--- the head of a list stays, however the list goes on behind b
+-- the head of a list stays, however the list goes on after b
 head_stays : (g rest more : List ℕ) (b c : ℕ) (m : List ℕ) → g ++ b ∷ rest ≡ c ∷ m → (n : List ℕ) × (g ++ b ∷ more ≡ c ∷ n)
 head_stays [] rest more b c m e = (more, cc)
 head_stays (d ∷ g) rest more b c m e = (g ++ b ∷ more, cc)
@@ -81,7 +81,7 @@ place_next A B s p q apart first second =
     place_of (Next A B) s (take p s ++ take q (drop p s)) (drop q (drop p s)) (p + q) (two_cuts s p q) (two_sizes s p q first.place.within second.within)
     (whole_stops A B (take p s) (take q (drop p s)) (drop q (drop p s)) apart first.text (first_stops A s p q first.place) (stops_of_place (B (take p s)) (drop p s) q second))
 
--- A text of A, and behind it a reading of what that text asks for, is a reading of the row.
+-- A text of A, and after it a reading of what that text asks for, is a reading of the row.
 pub next_read : (A : Language) (B : List ℕ → Language) (s : List ℕ) (p : ℕ) (r : Result ℕ ℕ) → NextApart A B → Reads A s (Ok p) → Reads (B (take p s)) (drop p s) r → Reads (Next A B) s (shift p r)
 unfolding Next
 next_read A B s p (Ok q) apart first second = record {
@@ -102,7 +102,7 @@ next_broken A B s p apart some first =
 
 -- the same for a second text that doesn't depend on the first
 
--- A text of A, and behind it a reading of B, is a reading of the row.
+-- A text of A, and after it a reading of B, is a reading of the row.
 pub then_read : (A B : Language) (s : List ℕ) (p : ℕ) (r : Result ℕ ℕ) → Apart A B → Reads A s (Ok p) → Reads B (drop p s) r → Reads (Then A B) s (shift p r)
 unfolding Then Next Apart NextApart
 then_read A B s p r apart first second = next_read A (λ _. B) s p r apart first second

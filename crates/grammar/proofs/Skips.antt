@@ -23,7 +23,7 @@ longest_whole L s n reads = record {
 
 -- where no byte lengthens a text
 
--- Two divisions of one list behind a text are the same.
+-- Two divisions of one list after a text are the same.
 pub one_front : (L : Language) (a b x y : List ℕ) → Lengthens L (λ _. ⊥) → L a → L b → a ++ x ≡ b ++ y → (a ≡ b) × (x ≡ y)
 unfolding Lengthens
 one_front L a b x y free left right e = elim (cuts a x b y e) [
@@ -69,9 +69,9 @@ none_row A B s none = record { none = λ n fits row. first n row.0 row.1 row.2 r
   first n x y e left =
       none_at_front A x (y ++ drop n s) (subst (HasNone A) (sym (take-append-drop n s) ∙ ap (λ t. t ++ drop n s) e ∙ append_assoc x y (drop n s)) none) left
 
-behind_first : (A B : Language) (s : List ℕ) (w n : ℕ) → Apart A B → Reads A s (Ok w) → w ≤ n → Then A B (take n s) → B (take (n - w) (drop w s))
+after_first : (A B : Language) (s : List ℕ) (w n : ℕ) → Apart A B → Reads A s (Ok w) → w ≤ n → Then A B (take n s) → B (take (n - w) (drop w s))
 unfolding Then Next Apart NextApart
-behind_first A B s w n apart first past row =
+after_first A B s w n apart first past row =
     second_text A (λ _. B) s w apart first (n - w) (subst (Then A B) split row) where
       split : take n s ≡ take w s ++ take (n - w) (drop w s)
       split = let sum : n ≡ w + (n - w) = omega arith in ap (λ m. take m s) sum ∙ take-add w (n - w) s
@@ -82,16 +82,16 @@ unfolding Then
 longest_row A B s w k apart first rest = record {
   within = omega (arith, first.place.within, rest.within, length-drop w s);
   text = (take w s, take k (drop w s), take-add w k s, first.text, rest.text);
-  longer = λ n more fits row. rest.longer (n - w) (omega arith) (omega (arith, length-drop w s)) (behind_first A B s w n apart first (omega arith) row);
+  longer = λ n more fits row. rest.longer (n - w) (omega arith) (omega (arith, length-drop w s)) (after_first A B s w n apart first (omega arith) row);
 }
 
--- Without a second text behind the one that was read there is no row.
+-- Without a second text after the one that was read there is no row.
 pub none_second : (A B : Language) (s : List ℕ) (w : ℕ) → Apart A B → Reads A s (Ok w) → HasNone B (drop w s) → HasNone (Then A B) s
 unfolding Then Apart
 none_second A B s w apart first none = record {
   none = λ n fits row. elim (cases_lt n w) [
     | inl short ↦ before n short fits row
-    | inr past ↦ none.none (n - w) (omega (arith, length-drop w s)) (behind_first A B s w n apart first past row)
+    | inr past ↦ none.none (n - w) (omega (arith, length-drop w s)) (after_first A B s w n apart first past row)
   ];
 } where
   regroup : (x : List ℕ) (c : ℕ) (y z : List ℕ) → (x ++ c ∷ y) ++ z ≡ (x ++ c ∷ []) ++ (y ++ z)
@@ -159,7 +159,7 @@ skips_or_other A B s (Err p) other no_empty skips = record {
 
 -- texts one after another
 
--- One more at the front goes before the longest behind it.
+-- One more at the front goes before the longest after it.
 pub longest_many_more : (L : Language) (s : List ℕ) (k q : ℕ) → Apart L (Many L) → Reads L s (Ok k) → Longest (Many L) (drop k s) q → Longest (Many L) s (k + q)
 unfolding Or Nothing
 longest_many_more L s k q apart first rest = record {
@@ -179,7 +179,7 @@ longest_many_end L s none = record {
   longer = λ n more fits text. elim (many_split L _ text) [ inl here ↦ (none_row L (Many L) s none).none n fits here | inr empty ↦ omega (arith, length-take-le n s fits, ap length empty) ];
 }
 
--- the longest of what is left, behind `at` bytes, is the longest of all
+-- the longest of what is left, after `at` bytes, is the longest of all
 pub record Further (L : Language) (s : List ℕ) (at : ℕ) : Type 0 where
   pub within : at ≤ length s
   pub goes : (k : ℕ) → Longest L (drop at s) k → Longest L s (at + k)

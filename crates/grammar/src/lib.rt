@@ -10,4 +10,4 @@ mod laws;
 mod reader;
 
 pub use laws::{HasTexts, one_longest, one_place, one_reading};
-pub use reader::{behind, first_byte, optional, read_fixed};
+pub use reader::{after, first_byte, optional, read_fixed};

@@ -18,7 +18,7 @@ pub fn read_fixed(bytes: &[u8], word: &[u8]) -> Result<usize, usize>
 
 /// The reading of what follows `size` bytes, as a reading of all. Takes no memory.
 #[inline]
-pub fn behind(size: usize, rest: Result<usize, usize>) -> Result<usize, usize>
+pub fn after(size: usize, rest: Result<usize, usize>) -> Result<usize, usize>
     requires { size + size_of rest < 2 ^ 64 }
     ensures { result ≡ shift size rest }
 {

@@ -5,21 +5,22 @@ use Rattle.std.specs.List.{list_all}
 use Rattle.std.proofs.lemmas.Bool.{false≢true}
 use Rattle.std.proofs.lemmas.List.Elements.{All-cons, All-head, All-nil, All-tail}
 use Rattle.std.proofs.lemmas.Option.{option_and_then_some}
-use Rattle.server_model.proofs.Counts.{and_left, and_right}
-use Rattle.server_model.specs.Fold.{changes_db, more_db, rows_of}
-use Rattle.server_model.specs.History.{TakesHead, here, there}
-use Rattle.server_model.specs.declared.data.Database.{Database}
-use Rattle.server_model.specs.declared.data.Transaction.{Transaction}
-use Rattle.history_laws.proofs.Objects.{is_not, same_some}
+use Rattle.server_data.proofs.Counts.{and_left, and_right}
+use Rattle.server_data.specs.Fold.{changes_db, more_db, rows_of}
+use Rattle.server_data.specs.History.{TakesHead, here, there}
+use Rattle.server_data.specs.declared.data.Database.{Database}
+use Rattle.server_data.specs.declared.data.Transaction.{Transaction}
+use Rattle.history_laws.proofs.Objects.{is_not}
 use Rattle.history_laws.proofs.Rows.{Alike, Follows, Untouched, steps}
 use Rattle.history_laws.proofs.Steps.{kept_to_end}
 use Rattle.history_laws.specs.Laws.{AreApart, IsApart, IsShareOf, ListsOverDifferentTablesCommute, Share, changes_row, is_none_of, is_over}
+use Rattle.plain_data.proofs.Options.{same_some}
 
 -- what is left of a share's list: it leads from a database that has the state's objects and, in the share's tables, its rows to where the share leads
 record Stands (state : Database) (share : Share) (list : List Transaction) : Type 0 where
   now : Database
   over : is_over share.takes list ≡ true
-  fits : more_db now list ≡ Some share.behind
+  fits : more_db now list ≡ Some share.after
   alike : Alike share.takes now state
 
 -- what is left of the lists of all shares
@@ -77,11 +78,11 @@ none_takes share (other ∷ others) apart schema name taken =
 record FirstStep (state : Database) (share : Share) (one : Transaction) (list : List Transaction) : Type 0 where
   middle : Database
   follows : Follows share.takes middle state (changes_db state one.changes)
-  rest : more_db middle list ≡ Some share.behind
+  rest : more_db middle list ≡ Some share.after
 
 first_step : (share : Share) (state : Database) (one : Transaction) (list : List Transaction) → Stands state share (one ∷ list) → FirstStep state share one list
 first_step share state one list stands =
-    option_and_then_some (λ (next : Database). more_db next list) (changes_db stands.now one.changes) share.behind stands.fits (λ middle first rest. record {
+    option_and_then_some (λ (next : Database). more_db next list) (changes_db stands.now one.changes) share.after stands.fits (λ middle first rest. record {
       middle = middle;
       follows = steps share.takes one.changes (and_left (list_all (changes_row share.takes) one.changes) (is_over share.takes list) stands.over) stands.now state middle stands.alike first;
       rest = rest;
@@ -141,7 +142,7 @@ stand_first start (share ∷ shares) are = (
 
 -- the rows of its tables are those that the share leaves
 abbrev HasOwn : Database → Share → Type 0
-HasOwn last share = (schema name : List ℕ) → share.takes schema name ≡ true → rows_of last schema name ≡ rows_of share.behind schema name
+HasOwn last share = (schema name : List ℕ) → share.takes schema name ≡ true → rows_of last schema name ≡ rows_of share.after schema name
 
 -- where nothing is left of a list, its share's rows are there
 own_rows : (last : Database) (share : Share) (list : List Transaction) → list ≡ [] → Stands last share list → HasOwn last share
@@ -157,8 +158,8 @@ all_own last (share ∷ shares) [] none stand = absurd stand
 
 pub commute : ListsOverDifferentTablesCommute
 commute start shares are apart whole order =
-    let behind = kept_to_end (Holds start shares) keeps (map (λ (share : Share). share.list) shares) whole order start (record { objects = refl; others = λ schema name none. refl; stand = stand_first start shares are }) in
-    (behind.last, behind.fits, record { objects = behind.held.objects; own = all_own behind.last shares behind.left behind.none behind.held.stand; others = behind.held.others })
+    let after = kept_to_end (Holds start shares) keeps (map (λ (share : Share). share.list) shares) whole order start (record { objects = refl; others = λ schema name none. refl; stand = stand_first start shares are }) in
+    (after.last, after.fits, record { objects = after.held.objects; own = all_own after.last shares after.left after.none after.held.stand; others = after.held.others })
   where
     keeps : (lists fewer : List (List Transaction)) (one : Transaction) (state : Database) → TakesHead lists one fewer → Holds start shares lists state
         → (next : Database) × (changes_db state one.changes ≡ Some next) × Holds start shares fewer next

@@ -1,4 +1,4 @@
--- How often a row stands in a table before and behind changes of rows.
+-- How often a row stands in a table before and after changes of rows.
 use Rattle.std.proofs.Common.{◌≡◌, ℕ, ◌+◌, arith, Bool, true, false, ◌&&◌, cond, List, [], ◌∷◌, ◌++◌, Option, Some, None, refl, ap, sym, ◌∙◌, bytes_eq}
 use Rattle.std.specs.Prelude.{All, count_by, filter_map, flat_map, option_and_then, option_map, sum_by}
 use Rattle.std.specs.List.{cons_option, list_all}
@@ -7,36 +7,37 @@ use Rattle.std.proofs.lemmas.List.Concat.{flat_map-cons}
 use Rattle.std.proofs.lemmas.List.Elements.{All-cons, All-head, All-nil, All-tail}
 use Rattle.std.proofs.lemmas.List.Sums.{sum_by-append, sum_by-cons}
 use Rattle.std.proofs.lemmas.Option.{cond_some, option_and_then_some}
-use Rattle.sql_literals.specs.declared.cell.Cell.{Cell}
-use Rattle.server_model.proofs.Agreements.{row_is}
-use Rattle.server_model.proofs.Counts.{and_both, and_left, and_right, count_none}
-use Rattle.server_model.specs.Agree.{Agree, is_before, object_eq}
-use Rattle.server_model.specs.Bag.{count_of}
-use Rattle.server_model.specs.Equal.{row_eq}
-use Rattle.server_model.specs.Fold.{change_db, changes_db, fits_row, more_db, rows_in, rows_of, with_row, without_first}
-use Rattle.server_model.specs.History.{Interleaves, TakesHead, here, none_left, takes, there}
-use Rattle.server_model.specs.declared.data.Change.{Change}
-use Rattle.server_model.specs.declared.data.Change.TheVariants.{Make, Drop, Put, Remove}
-use Rattle.server_model.specs.declared.data.Database.{Database}
-use Rattle.server_model.specs.declared.data.Object.{Object}
-use Rattle.server_model.specs.declared.data.Transaction.{Transaction}
-use Rattle.history_laws.proofs.Objects.{bytes_are, put_objects, remove_objects, same_some}
+use Rattle.sql_cells.specs.declared.cell.Cell.{Cell}
+use Rattle.server_data.proofs.Equals.{row_is}
+use Rattle.server_data.proofs.Counts.{and_both, and_left, and_right, count_none}
+use Rattle.server_data.specs.Agree.{Agree, is_before, object_eq}
+use Rattle.server_data.specs.Bag.{count_of}
+use Rattle.server_data.specs.Equal.{row_eq}
+use Rattle.server_data.specs.Fold.{change_db, changes_db, fits_row, more_db, rows_in, rows_of, with_row, without_first}
+use Rattle.server_data.specs.History.{Interleaves, TakesHead, here, none_left, takes, there}
+use Rattle.server_data.specs.declared.data.Change.{Change}
+use Rattle.server_data.specs.declared.data.Change.TheVariants.{Make, Drop, Put, Remove}
+use Rattle.server_data.specs.declared.data.Database.{Database}
+use Rattle.server_data.specs.declared.data.Object.{Object}
+use Rattle.server_data.specs.declared.data.Transaction.{Transaction}
+use Rattle.history_laws.proofs.Objects.{bytes_are, put_objects, remove_objects}
 use Rattle.history_laws.proofs.Rows.{Removed, Rows, fits_table, frame, put_rows, removed, same_first}
 use Rattle.history_laws.specs.Laws.{InterleavingsAgree, ListsThatPutRowsCommute, PutsRows, any_table, changes_row, is_over, is_put, only_puts, row_into, rows_into}
+use Rattle.plain_data.proofs.Options.{same_some}
 
 -- how often a row counts as the other: once or not at all
 abbrev alike : List Cell → List Cell → ℕ
 alike row other = cond (row_eq row other) 1 0
 
--- rows are counted one by one, and in lists one behind the other
+-- rows are counted one by one, and in lists one after the other
 
 count_front : (row one : List Cell) (others : Rows) → count_of row (one ∷ others) ≡ alike row one + count_of row others
 unfolding count_of
 count_front row one others = sum_by-cons (λ (other : List Cell). alike row other) one others
 
-count_join : (row : List Cell) (front behind : Rows) → count_of row (front ++ behind) ≡ count_of row front + count_of row behind
+count_join : (row : List Cell) (front after : Rows) → count_of row (front ++ after) ≡ count_of row front + count_of row after
 unfolding count_of
-count_join row front behind = sum_by-append (λ (other : List Cell). alike row other) front behind
+count_join row front after = sum_by-append (λ (other : List Cell). alike row other) front after
 
 count_some : (row other : List Cell) (b : Bool) → count_of row (cond b (other ∷ []) []) ≡ cond b (alike row other) 0
 count_some row other false = count_none row
@@ -148,7 +149,7 @@ changes_balance (change ∷ changes) are old new fits =
       objects = others.objects ∙ one.objects;
       counts = λ s n row.
           let here = one.counts s n row in
-          let behind = others.counts s n row in
+          let after = others.counts s n row in
           let put = sum_by-cons (put_by s n row) change changes in
           let taken = sum_by-cons (taken_by s n row) change changes in
           omega arith;
@@ -165,7 +166,7 @@ balance (x ∷ whole) are old new fits =
       objects = others.objects ∙ one.objects;
       counts = λ s n row.
           let here = one.counts s n row in
-          let behind = others.counts s n row in
+          let after = others.counts s n row in
           let put = sum_by-cons (put_in s n row) x whole in
           let taken = sum_by-cons (taken_in s n row) x whole in
           omega arith;
@@ -182,7 +183,7 @@ module _ (w : Transaction → ℕ) where
       omega arith
   sum_head (there {x} {list} {lists} {fewer} head) =
       let before = sum_by-cons (sum_by w) list lists in
-      let behind = sum_by-cons (sum_by w) list fewer in
+      let after = sum_by-cons (sum_by w) list fewer in
       let inside = sum_head head in
       omega arith
 
@@ -198,7 +199,7 @@ module _ (w : Transaction → ℕ) where
   sum_whole (none_left {lists} none) = sym (sum_none lists none)
   sum_whole (takes {lists} {fewer} {x} {whole} head rest) =
       let front = sum_by-cons w x whole in
-      let behind = sum_whole rest in
+      let after = sum_whole rest in
       let taken = sum_head head in
       omega arith
 
@@ -232,11 +233,11 @@ agree one other objects counts = record {
 
 pub interleavings_agree : InterleavingsAgree
 interleavings_agree start lists are one other order order_too last next fits fits_too =
-    let behind = balance one (pass_whole (λ x. list_all (changes_row any_table) x.changes) order are) start last fits in
-    let behind_too = balance other (pass_whole (λ x. list_all (changes_row any_table) x.changes) order_too are) start next fits_too in
-    agree last next (behind.objects ∙ sym behind_too.objects) (λ schema name row.
-    let counts = behind.counts schema name row in
-    let counts_too = behind_too.counts schema name row in
+    let after = balance one (pass_whole (λ x. list_all (changes_row any_table) x.changes) order are) start last fits in
+    let after_too = balance other (pass_whole (λ x. list_all (changes_row any_table) x.changes) order_too are) start next fits_too in
+    agree last next (after.objects ∙ sym after_too.objects) (λ schema name row.
+    let counts = after.counts schema name row in
+    let counts_too = after_too.counts schema name row in
     let put = sum_whole (put_in schema name row) order in
     let put_too = sum_whole (put_in schema name row) order_too in
     let taken = sum_whole (taken_in schema name row) order in
@@ -329,7 +330,7 @@ rows_changes objects (change ∷ changes) can =
       λ s n row.
           let front = sum_by-cons (taken_by s n row) change changes in
           let here = one.1 s n row in
-          let behind = others.1 s n row in
+          let after = others.1 s n row in
           omega arith,
     )
 
@@ -342,7 +343,7 @@ rows_whole objects (x ∷ whole) can =
       λ s n row.
           let front = sum_by-cons (taken_in s n row) x whole in
           let here = one.1 s n row in
-          let behind = others.1 s n row in
+          let after = others.1 s n row in
           omega arith,
     )
 
@@ -350,12 +351,12 @@ rows_whole objects (x ∷ whole) can =
 
 count_changes : (schema name : List ℕ) (row : List Cell) (changes : List Change) → count_of row (filter_map (row_into schema name) changes) ≡ sum_by (put_by schema name row) changes
 count_changes schema name row [] = count_none row
-count_changes schema name row (Make object ∷ changes) = let front = sum_by-cons (put_by schema name row) (Make object) changes in let behind = count_changes schema name row changes in omega arith
-count_changes schema name row (Drop kind s n ∷ changes) = let front = sum_by-cons (put_by schema name row) (Drop kind s n) changes in let behind = count_changes schema name row changes in omega arith
-count_changes schema name row (Remove s n other ∷ changes) = let front = sum_by-cons (put_by schema name row) (Remove s n other) changes in let behind = count_changes schema name row changes in omega arith
+count_changes schema name row (Make object ∷ changes) = let front = sum_by-cons (put_by schema name row) (Make object) changes in let after = count_changes schema name row changes in omega arith
+count_changes schema name row (Drop kind s n ∷ changes) = let front = sum_by-cons (put_by schema name row) (Drop kind s n) changes in let after = count_changes schema name row changes in omega arith
+count_changes schema name row (Remove s n other ∷ changes) = let front = sum_by-cons (put_by schema name row) (Remove s n other) changes in let after = count_changes schema name row changes in omega arith
 count_changes schema name row (Put s n other ∷ changes) =
     let front = sum_by-cons (put_by schema name row) (Put s n other) changes in
-    let behind = count_changes schema name row changes in
+    let after = count_changes schema name row changes in
     let here = by_test (bytes_eq s schema && bytes_eq n name) (filter_map (row_into schema name) changes) in
     omega arith
   where
@@ -369,7 +370,7 @@ count_list schema name row (x ∷ list) =
     let front = sum_by-cons (put_in schema name row) x list in
     let join = count_join row (filter_map (row_into schema name) x.changes) (rows_into schema name list) in
     let here = count_changes schema name row x.changes in
-    let behind = count_list schema name row list in
+    let after = count_list schema name row list in
     ap (count_of row) (flat_map-cons (λ (one : Transaction). filter_map (row_into schema name) one.changes) x list) ∙ (omega arith)
 
 count_lists : (schema name : List ℕ) (row : List Cell) (lists : List (List Transaction)) → count_of row (flat_map (rows_into schema name) lists) ≡ sum_by (sum_by (put_in schema name row)) lists
@@ -378,17 +379,17 @@ count_lists schema name row (list ∷ lists) =
     let front = sum_by-cons (sum_by (put_in schema name row)) list lists in
     let join = count_join row (rows_into schema name list) (flat_map (rows_into schema name) lists) in
     let here = count_list schema name row list in
-    let behind = count_lists schema name row lists in
+    let after = count_lists schema name row lists in
     ap (count_of row) (flat_map-cons (rows_into schema name) list lists) ∙ (omega arith)
 
 pub puts_commute : ListsThatPutRowsCommute
 puts_commute start lists are whole order =
     let can = pass_whole (can_put_all start.objects) order (all_fit start lists are) in
-    let behind = fits_whole whole start can in
+    let after = fits_whole whole start can in
     let rows = rows_whole start.objects whole can in
-    let last = balance whole rows.0 start behind.next behind.fits in (
-      behind.next,
-      behind.fits,
+    let last = balance whole rows.0 start after.next after.fits in (
+      after.next,
+      after.fits,
       record {
         objects = last.objects;
         rows = λ schema name. record {

@@ -1,4 +1,4 @@
--- Objects behind a history.
+-- Objects after a history.
 use Rattle.std.proofs.Common.{◌≡◌, ℕ, ◌≤◌, arith, Bool, true, false, not, ◌&&◌, ◌||◌, cond, List, [], ◌∷◌, ◌++◌, length, get_or, Option, Some, None, refl, ap, sym, ◌∙◌, subst, bytes_eq, length-append}
 use Rattle.std.specs.Prelude.{All, filter, option_map}
 use Rattle.std.specs.List.{list_any}
@@ -8,22 +8,19 @@ use Rattle.std.proofs.lemmas.List.Folds.{list_any-append, list_any_at}
 use Rattle.std.proofs.lemmas.Map.Views.{any-filter_same}
 use Rattle.std.proofs.lemmas.Option.{cond_some, option_and_then_some}
 use Rattle.std.proofs.lemmas.Slice.Eq.{bytes_eq-Decides}
-use Rattle.object_texts.specs.declared.head.Kind.{Kind}
-use Rattle.object_texts.specs.declared.head.Kind.TheVariants.{Schema, Table, Procedure, Function, View, Trigger}
-use Rattle.server_model.proofs.Counts.{and_both, and_left, and_right}
-use Rattle.server_model.specs.Equal.{kind_eq}
-use Rattle.server_model.specs.Fold.{change_db, changes_db, empty_db, has_object, has_place, has_schema, is_object, may_drop, may_make, more_db, stands_in, with_object, with_row, without_object, without_row, fits_row}
-use Rattle.server_model.specs.declared.data.Change.{Change}
-use Rattle.server_model.specs.declared.data.Change.TheVariants.{Make, Drop, Put, Remove}
-use Rattle.server_model.specs.declared.data.Database.{Database}
-use Rattle.server_model.specs.declared.data.Object.{Object}
-use Rattle.server_model.specs.declared.data.TableRows.{TableRows}
-use Rattle.server_model.specs.declared.data.Transaction.{Transaction}
+use Rattle.object_forms.specs.declared.kind.Kind.{Kind}
+use Rattle.object_forms.specs.declared.kind.Kind.TheVariants.{Schema, Table, Procedure, Function, View, Trigger}
+use Rattle.server_data.proofs.Counts.{and_both, and_left, and_right}
+use Rattle.server_data.specs.Equal.{kind_eq}
+use Rattle.server_data.specs.Fold.{change_db, changes_db, empty_db, has_object, has_place, has_schema, is_object, may_drop, may_make, more_db, stands_in, with_object, with_row, without_object, without_row, fits_row}
+use Rattle.server_data.specs.declared.data.Change.{Change}
+use Rattle.server_data.specs.declared.data.Change.TheVariants.{Make, Drop, Put, Remove}
+use Rattle.server_data.specs.declared.data.Database.{Database}
+use Rattle.server_data.specs.declared.data.Object.{Object}
+use Rattle.server_data.specs.declared.data.TableRows.{TableRows}
+use Rattle.server_data.specs.declared.data.Transaction.{Transaction}
 use Rattle.history_laws.specs.Laws.{ObjectsStandOnce, SchemasAreThere}
-
--- what is found is the same
-pub same_some : {X : Type 0} {x y : X} → Some x ≡ Some y → x ≡ y
-same_some e = cc
+use Rattle.plain_data.proofs.Options.{same_some}
 
 pub is_not : (b : Bool) → not b ≡ true → b ≡ false
 is_not true e = absurd (false≢true e)
@@ -77,11 +74,11 @@ record Is (kind : Kind) (schema name : List ℕ) (object : Object) : Type 0 wher
 
 is_of : (kind : Kind) (schema name : List ℕ) (object : Object) → is_object kind schema name object ≡ true → Is kind schema name object
 is_of kind schema name object e =
-    let behind = and_right (kind_eq object.kind kind) _ e in
+    let after = and_right (kind_eq object.kind kind) _ e in
     record {
       kind_is = kind_is object.kind kind (and_left _ _ e);
-      schema_is = bytes_are object.schema schema (and_left _ _ behind);
-      name_is = bytes_are object.name name (and_right (bytes_eq object.schema schema) _ behind);
+      schema_is = bytes_are object.schema schema (and_left _ _ after);
+      name_is = bytes_are object.name name (and_right (bytes_eq object.schema schema) _ after);
     }
 
 -- objects stand once

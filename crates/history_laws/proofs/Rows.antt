@@ -4,62 +4,63 @@ use Rattle.std.specs.Prelude.{option_and_then, option_map}
 use Rattle.std.specs.List.{list_all, list_any}
 use Rattle.std.proofs.lemmas.Bool.{false≢true}
 use Rattle.std.proofs.lemmas.Option.{cond_some, option_and_then_some}
-use Rattle.object_texts.specs.declared.head.Kind.TheVariants.{Table}
-use Rattle.server_model.proofs.Counts.{and_left, and_right}
-use Rattle.server_model.specs.Equal.{row_eq}
-use Rattle.server_model.specs.Fold.{change_db, changes_db, fits_row, found_or_later, has_object, is_object, is_of_table, rows_in, rows_of, takes_row, with_row, without_first, without_row}
-use Rattle.server_model.specs.declared.data.Change.{Change}
-use Rattle.server_model.specs.declared.data.Change.TheVariants.{Make, Drop, Put, Remove}
-use Rattle.server_model.specs.declared.data.Database.{Database}
-use Rattle.server_model.specs.declared.data.Object.{Object}
-use Rattle.server_model.specs.declared.data.TableRows.{TableRows}
-use Rattle.sql_literals.specs.declared.cell.Cell.{Cell}
-use Rattle.history_laws.proofs.Objects.{bytes_are, same_some}
+use Rattle.object_forms.specs.declared.kind.Kind.TheVariants.{Table}
+use Rattle.server_data.proofs.Counts.{and_left, and_right}
+use Rattle.server_data.specs.Equal.{row_eq}
+use Rattle.server_data.specs.Fold.{change_db, changes_db, fits_row, found_or_later, has_object, is_object, is_of_table, rows_in, rows_of, takes_row, with_row, without_first, without_row}
+use Rattle.server_data.specs.declared.data.Change.{Change}
+use Rattle.server_data.specs.declared.data.Change.TheVariants.{Make, Drop, Put, Remove}
+use Rattle.server_data.specs.declared.data.Database.{Database}
+use Rattle.server_data.specs.declared.data.Object.{Object}
+use Rattle.server_data.specs.declared.data.TableRows.{TableRows}
+use Rattle.sql_cells.specs.declared.cell.Cell.{Cell}
+use Rattle.history_laws.proofs.Objects.{bytes_are}
 use Rattle.history_laws.specs.Laws.{changes_row}
+use Rattle.plain_data.proofs.Options.{same_some}
 
 abbrev pub Rows : Type 0
 Rows = List (List Cell)
 
--- the rows of lists one behind the other
-rows_join : (schema name : List ℕ) (front behind : List TableRows) → rows_in schema name (front ++ behind) ≡ rows_in schema name front ++ rows_in schema name behind
-rows_join schema name [] behind = refl
-rows_join schema name (one ∷ front) behind = by_test (is_of_table schema name one) (rows_join schema name front behind)
+-- the rows of lists one after the other
+rows_join : (schema name : List ℕ) (front after : List TableRows) → rows_in schema name (front ++ after) ≡ rows_in schema name front ++ rows_in schema name after
+rows_join schema name [] after = refl
+rows_join schema name (one ∷ front) after = by_test (is_of_table schema name one) (rows_join schema name front after)
   where
-    by_test : (b : Bool) → rows_in schema name (front ++ behind) ≡ rows_in schema name front ++ rows_in schema name behind
-        → cond b (one.rows ++ rows_in schema name (front ++ behind)) (rows_in schema name (front ++ behind)) ≡ cond b (one.rows ++ rows_in schema name front) (rows_in schema name front) ++ rows_in schema name behind
-    by_test true e = ap (λ (rows : Rows). one.rows ++ rows) e ∙ sym (append_assoc one.rows (rows_in schema name front) (rows_in schema name behind))
+    by_test : (b : Bool) → rows_in schema name (front ++ after) ≡ rows_in schema name front ++ rows_in schema name after
+        → cond b (one.rows ++ rows_in schema name (front ++ after)) (rows_in schema name (front ++ after)) ≡ cond b (one.rows ++ rows_in schema name front) (rows_in schema name front) ++ rows_in schema name after
+    by_test true e = ap (λ (rows : Rows). one.rows ++ rows) e ∙ sym (append_assoc one.rows (rows_in schema name front) (rows_in schema name after))
     by_test false e = e
 
--- what was found in the front, or else what was found behind it
-abbrev or_behind : Rows → Option Rows → Option Rows → Option Rows
-or_behind behind (Some rows) later = Some (rows ++ behind)
-or_behind behind None later = later
+-- what was found in the front, or else what was found after it
+abbrev or_after : Rows → Option Rows → Option Rows → Option Rows
+or_after after (Some rows) later = Some (rows ++ after)
+or_after after None later = later
 
--- the first that is equal is looked for in the front, and then behind it
-first_join : (row : List Cell) (front behind : Rows) → without_first row (front ++ behind) ≡ or_behind behind (without_first row front) (option_map (λ (rest : Rows). front ++ rest) (without_first row behind))
-first_join row [] behind = by_found (without_first row behind)
+-- the first that is equal is looked for in the front, and then after it
+first_join : (row : List Cell) (front after : Rows) → without_first row (front ++ after) ≡ or_after after (without_first row front) (option_map (λ (rest : Rows). front ++ rest) (without_first row after))
+first_join row [] after = by_found (without_first row after)
   where
     by_found : (found : Option Rows) → found ≡ option_map (λ (rest : Rows). [] ++ rest) found
     by_found None = refl
     by_found (Some rest) = refl
-first_join row (one ∷ front) behind = by_test (row_eq row one) (first_join row front behind)
+first_join row (one ∷ front) after = by_test (row_eq row one) (first_join row front after)
   where
-    by_found : (here later : Option Rows) → option_map (λ (rest : Rows). one ∷ rest) (or_behind behind here (option_map (λ (rest : Rows). front ++ rest) later)) ≡ or_behind behind (option_map (λ (rest : Rows). one ∷ rest) here) (option_map (λ (rest : Rows). one ∷ (front ++ rest)) later)
+    by_found : (here later : Option Rows) → option_map (λ (rest : Rows). one ∷ rest) (or_after after here (option_map (λ (rest : Rows). front ++ rest) later)) ≡ or_after after (option_map (λ (rest : Rows). one ∷ rest) here) (option_map (λ (rest : Rows). one ∷ (front ++ rest)) later)
     by_found (Some rows) later = refl
     by_found None None = refl
     by_found None (Some rest) = refl
 
-    by_test : (b : Bool) → without_first row (front ++ behind) ≡ or_behind behind (without_first row front) (option_map (λ (rest : Rows). front ++ rest) (without_first row behind))
-        → cond b (Some (front ++ behind)) (option_map (λ (rest : Rows). one ∷ rest) (without_first row (front ++ behind))) ≡ or_behind behind (cond b (Some front) (option_map (λ (rest : Rows). one ∷ rest) (without_first row front))) (option_map (λ (rest : Rows). one ∷ (front ++ rest)) (without_first row behind))
+    by_test : (b : Bool) → without_first row (front ++ after) ≡ or_after after (without_first row front) (option_map (λ (rest : Rows). front ++ rest) (without_first row after))
+        → cond b (Some (front ++ after)) (option_map (λ (rest : Rows). one ∷ rest) (without_first row (front ++ after))) ≡ or_after after (cond b (Some front) (option_map (λ (rest : Rows). one ∷ rest) (without_first row front))) (option_map (λ (rest : Rows). one ∷ (front ++ rest)) (without_first row after))
     by_test true e = refl
-    by_test false e = ap (λ (found : Option Rows). option_map (λ (rest : Rows). one ∷ rest) found) e ∙ by_found (without_first row front) (without_first row behind)
+    by_test false e = ap (λ (found : Option Rows). option_map (λ (rest : Rows). one ∷ rest) found) e ∙ by_found (without_first row front) (without_first row after)
 
 -- the row that is taken out of the lists is the first of the table's rows
 pub same_first : (schema name : List ℕ) (row : List Cell) (tables : List TableRows) → option_map (rows_in schema name) (without_row schema name row tables) ≡ without_first row (rows_in schema name tables)
 same_first schema name row [] = refl
 same_first schema name row (one ∷ others) = by_test (is_of_table schema name one) refl (same_first schema name row others)
   where
-    by_found : is_of_table schema name one ≡ true → (here : Option Rows) (later : Option (List TableRows)) → option_map (rows_in schema name) (found_or_later one others here later) ≡ or_behind (rows_in schema name others) here (option_map (λ (rest : Rows). one.rows ++ rest) (option_map (rows_in schema name) later))
+    by_found : is_of_table schema name one ≡ true → (here : Option Rows) (later : Option (List TableRows)) → option_map (rows_in schema name) (found_or_later one others here later) ≡ or_after (rows_in schema name others) here (option_map (λ (rest : Rows). one.rows ++ rest) (option_map (rows_in schema name) later))
     by_found is (Some rows) later = rw is refl
     by_found is None None = refl
     by_found is None (Some rest) = rw is refl
@@ -72,7 +73,7 @@ same_first schema name row (one ∷ others) = by_test (is_of_table schema name o
         → option_map (rows_in schema name) (found_or_later one others (cond b (without_first row one.rows) None) (without_row schema name row others)) ≡ without_first row (cond b (one.rows ++ rows_in schema name others) (rows_in schema name others))
     by_test true is e =
         by_found is (without_first row one.rows) (without_row schema name row others)
-        ∙ (ap (λ (found : Option Rows). or_behind (rows_in schema name others) (without_first row one.rows) (option_map (λ (rest : Rows). one.rows ++ rest) found)) e
+        ∙ (ap (λ (found : Option Rows). or_after (rows_in schema name others) (without_first row one.rows) (option_map (λ (rest : Rows). one.rows ++ rest) found)) e
         ∙ sym (first_join row one.rows (rows_in schema name others)))
     by_test false is e = passed is (without_row schema name row others) ∙ e
 

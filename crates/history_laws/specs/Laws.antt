@@ -1,19 +1,19 @@
 -- Laws of histories and of their interleavings, of which the functions of src/laws.rt are the proofs.
 use Rattle.std.specs.Prelude.{ℕ, ◌≡◌, ◌≤◌, ◌&&◌, not, if◌then◌else◌, Bool, true, false, List, [], ◌∷◌, ◌++◌, length, map, filter, filter_map, flat_map, All, Option, Some, None, bytes_eq}
 use Rattle.std.specs.List.{list_all}
-use Rattle.object_texts.specs.declared.head.Kind.{Kind}
-use Rattle.object_texts.specs.declared.head.Kind.TheVariants.{Schema}
-use Rattle.sql_literals.specs.declared.cell.Cell.{Cell}
-use Rattle.server_model.specs.Agree.{Agree}
-use Rattle.server_model.specs.Bag.{IsSameBag}
-use Rattle.server_model.specs.Equal.{kind_eq}
-use Rattle.server_model.specs.Fold.{changes_db, db, has_schema, is_object, more_db, rows_of}
-use Rattle.server_model.specs.History.{Interleaves, TakesHead}
-use Rattle.server_model.specs.declared.data.Change.{Change}
-use Rattle.server_model.specs.declared.data.Change.TheVariants.{Make, Drop, Put, Remove}
-use Rattle.server_model.specs.declared.data.Database.{Database}
-use Rattle.server_model.specs.declared.data.Object.{Object}
-use Rattle.server_model.specs.declared.data.Transaction.{Transaction}
+use Rattle.object_forms.specs.declared.kind.Kind.{Kind}
+use Rattle.object_forms.specs.declared.kind.Kind.TheVariants.{Schema}
+use Rattle.sql_cells.specs.declared.cell.Cell.{Cell}
+use Rattle.server_data.specs.Agree.{Agree}
+use Rattle.server_data.specs.Bag.{IsSameBag}
+use Rattle.server_data.specs.Equal.{kind_eq}
+use Rattle.server_data.specs.Fold.{changes_db, db, has_schema, is_object, more_db, rows_of}
+use Rattle.server_data.specs.History.{Interleaves, TakesHead}
+use Rattle.server_data.specs.declared.data.Change.{Change}
+use Rattle.server_data.specs.declared.data.Change.TheVariants.{Make, Drop, Put, Remove}
+use Rattle.server_data.specs.declared.data.Database.{Database}
+use Rattle.server_data.specs.declared.data.Object.{Object}
+use Rattle.server_data.specs.declared.data.Transaction.{Transaction}
 
 -- the change puts or removes a row of a table that the test takes
 abbrev pub changes_row : (List ℕ → List ℕ → Bool) → Change → Bool
@@ -26,15 +26,15 @@ changes_row takes (Remove schema name row) = takes schema name
 abbrev pub is_over : (List ℕ → List ℕ → Bool) → List Transaction → Bool
 is_over takes list = list_all (λ one. list_all (changes_row takes) one.changes) list
 
--- a list of transactions, the tables whose rows it changes, by schema and name, and the database behind it alone
+-- a list of transactions, the tables whose rows it changes, by schema and name, and the database after it alone
 pub record Share : Type 0 where
   pub list : List Transaction
   pub takes : List ℕ → List ℕ → Bool
-  pub behind : Database
+  pub after : Database
 
 pub record IsShareOf (start : Database) (share : Share) : Type 0 where
   pub over : is_over share.takes share.list ≡ true
-  pub fits : more_db start share.list ≡ Some share.behind
+  pub fits : more_db start share.list ≡ Some share.after
 
 -- no table's rows are changed by both
 abbrev pub IsApart : Share → Share → Type 0
@@ -49,22 +49,22 @@ AreApart (one ∷ others) = All (IsApart one) others × AreApart others
 abbrev pub is_none_of : List Share → List ℕ → List ℕ → Bool
 is_none_of shares schema name = list_all (λ share. not (share.takes schema name)) shares
 
--- the database behind an interleaving: in each table are the rows that its own list leaves, in the others those from before
-pub record IsBehind (start : Database) (shares : List Share) (last : Database) : Type 0 where
+-- the database after an interleaving: in each table are the rows that its own list leaves, in the others those from before
+pub record IsAfter (start : Database) (shares : List Share) (last : Database) : Type 0 where
   pub objects : last.objects ≡ start.objects
-  pub own : All (λ (share : Share). (schema name : List ℕ) → share.takes schema name ≡ true → rows_of last schema name ≡ rows_of share.behind schema name) shares
+  pub own : All (λ (share : Share). (schema name : List ℕ) → share.takes schema name ≡ true → rows_of last schema name ≡ rows_of share.after schema name) shares
   pub others : (schema name : List ℕ) → is_none_of shares schema name ≡ true → rows_of last schema name ≡ rows_of start schema name
 
 -- every interleaving of lists over different tables fits where each of them does alone, and leaves in each table what its own list leaves there
 abbrev pub ListsOverDifferentTablesCommute : Type 0
 ListsOverDifferentTablesCommute = (start : Database) (shares : List Share) → All (IsShareOf start) shares → AreApart shares
-    → (whole : List Transaction) → Interleaves (map (λ (share : Share). share.list) shares) whole → (last : Database) × (more_db start whole ≡ Some last) × IsBehind start shares last
+    → (whole : List Transaction) → Interleaves (map (λ (share : Share). share.list) shares) whole → (last : Database) × (more_db start whole ≡ Some last) × IsAfter start shares last
 
 -- every table is taken
 abbrev pub any_table : List ℕ → List ℕ → Bool
 any_table schema name = true
 
--- the databases behind any two interleavings of lists that change nothing but rows agree, where both fit
+-- the databases after any two interleavings of lists that change nothing but rows agree, where both fit
 abbrev pub InterleavingsAgree : Type 0
 InterleavingsAgree = (start : Database) (lists : List (List Transaction)) → All (λ (list : List Transaction). is_over any_table list ≡ true) lists
     → (one other : List Transaction) → Interleaves lists one → Interleaves lists other → (last next : Database) → more_db start one ≡ Some last → more_db start other ≡ Some next → Agree last next
@@ -92,7 +92,7 @@ row_into schema name other = None
 abbrev pub rows_into : List ℕ → List ℕ → List Transaction → List (List Cell)
 rows_into schema name list = flat_map (λ one. filter_map (row_into schema name) one.changes) list
 
--- the database behind an interleaving of such lists: in each table stand the rows from before and those that each list puts there
+-- the database after an interleaving of such lists: in each table stand the rows from before and those that each list puts there
 pub record IsFilledBy (start : Database) (lists : List (List Transaction)) (last : Database) : Type 0 where
   pub objects : last.objects ≡ start.objects
   pub rows : (schema name : List ℕ) → IsSameBag (rows_of last schema name) (rows_of start schema name ++ flat_map (rows_into schema name) lists)
@@ -106,7 +106,7 @@ ListsThatPutRowsCommute = (start : Database) (lists : List (List Transaction)) �
 abbrev pub OneListIsItsInterleaving : Type 0
 OneListIsItsInterleaving = (list whole : List Transaction) → Interleaves (list ∷ []) whole → whole ≡ list
 
--- of each kind, schema and name there is at most one object behind a history
+-- of each kind, schema and name there is at most one object after a history
 abbrev pub ObjectsStandOnce : Type 0
 ObjectsStandOnce = (history : List Transaction) (database : Database) → db history ≡ Some database
     → (kind : Kind) (schema name : List ℕ) → length (filter (is_object kind schema name) database.objects) ≤ 1
@@ -122,7 +122,7 @@ IsKept Holds = (lists fewer : List (List Transaction)) (one : Transaction) (stat
     → (next : Database) × (changes_db state one.changes ≡ Some next) × Holds fewer next
 
 -- the whole fits, nothing is left of the lists, and what is said holds
-pub record HoldsBehind (Holds : List (List Transaction) → Database → Type 0) (state : Database) (whole : List Transaction) : Type 0 where
+pub record HoldsAfter (Holds : List (List Transaction) → Database → Type 0) (state : Database) (whole : List Transaction) : Type 0 where
   pub last : Database
   pub fits : more_db state whole ≡ Some last
   pub left : List (List Transaction)

@@ -7,7 +7,7 @@ pub fn lists_over_different_tables_commute()
     ensures { ListsOverDifferentTablesCommute }
 {}
 
-/// The databases behind any two interleavings of lists that change nothing but rows agree, where both
+/// The databases after any two interleavings of lists that change nothing but rows agree, where both
 /// fit, also where the lists change rows of one table.
 pub fn interleavings_agree()
     ensures { InterleavingsAgree }
@@ -24,12 +24,12 @@ pub fn one_list_is_its_interleaving()
     ensures { OneListIsItsInterleaving }
 {}
 
-/// Behind a history there is at most one object of each kind, schema and name.
+/// After a history there is at most one object of each kind, schema and name.
 pub fn objects_stand_once()
     ensures { ObjectsStandOnce }
 {}
 
-/// Behind a history the schema of each object that isn't one itself is there.
+/// After a history the schema of each object that isn't one itself is there.
 pub fn schemas_are_there()
     ensures { SchemasAreThere }
 {}

@@ -1,4 +1,4 @@
-//! Laws of what histories do to a database: what holds behind every history, and how histories that
+//! Laws of what histories do to a database: what holds after every history, and how histories that
 //! are carried out beside one another leave it. Nothing here runs: the contracts are the laws, over the
 //! data of `server_model`.
 #![tactic(auto)]

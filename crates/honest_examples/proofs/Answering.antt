@@ -4,12 +4,12 @@ use Rattle.std.proofs.Common.{◌≡◌, ℕ, true, false, List, [], ◌∷◌, 
 use Rattle.std.proofs.lemmas.Bool.{false≢true, true≢false}
 use Rattle.std.specs.Fmt.{digits}
 use Rattle.std.specs.Str.{chars, is_utf8}
-use Rattle.object_texts.specs.Token.{tokens}
-use Rattle.server_model.specs.Bag.{IsSameBag, count_of}
-use Rattle.server_model.specs.Fold.{rows_of}
-use Rattle.sql_literals.specs.declared.cell.Cell.{Cell}
-use Rattle.sql_literals.specs.declared.cell.Cell.TheVariants.{Value}
-use Rattle.honest_server.specs.Answer.{HasKey, IsColumnRow, everything, holds, is_inside, keys_rise, only_cell}
+use Rattle.object_forms.specs.Token.{tokens}
+use Rattle.server_data.specs.Bag.{IsSameBag, count_of}
+use Rattle.server_data.specs.Fold.{rows_of}
+use Rattle.sql_cells.specs.declared.cell.Cell.{Cell}
+use Rattle.sql_cells.specs.declared.cell.Cell.TheVariants.{Value}
+use Rattle.honest_server.specs.Answer.{HasKey, IsColumnRow, everything, has_bytes, is_inside, keys_rise, only_cell}
 use Rattle.honest_server.specs.Columns.{integer_at}
 use Rattle.honest_examples.specs.Answered.{column_row, key, told, AllRowsCome, ATableIsToldWithItsEngine, ATextIsShown, ColumnsAreAskedForInOrder, ColumnsAreToldWithTheirTypes, EachSchemaIsTold, KeysAreSkipped, NoPositionIsShown, NoTriggersAreTold, RowsInsideTheBoundsCome, RowsComeInTheOrderOfTheKey, TheKeyIsTold, TheLastPositionIsShown, TheSignOfPlainIntegersIsTold}
 use Rattle.honest_examples.proofs.Bags.{first_of_two, other_order, same_rows, some_row}
@@ -103,7 +103,7 @@ each_schema = record { allowed = same_rows _; refused = λ answer. absurd (cc (a
 
 -- a plain integer whose type holds the word is unsigned
 signed : IsColumnRow id (column_row key (codes "int") (codes "int unsigned")) → ⊥
-signed row = let same : row.column_type ≡ codes "int unsigned" = cc (row.row_is) in absurd (cc (subst (λ column_type. holds (codes "unsigned") column_type ≡ false) same (row.unsigned refl refl)))
+signed row = let same : row.column_type ≡ codes "int unsigned" = cc (row.row_is) in absurd (cc (subst (λ column_type. has_bytes (codes "unsigned") column_type ≡ false) same (row.unsigned refl refl)))
 
 pub column_types : ColumnsAreToldWithTheirTypes
 column_types = record {

@@ -2,10 +2,10 @@
 use Rattle.std.proofs.Common.{◌≡◌, ◌+◌, ◌≤◌, ℕ, Bool, true, false, cond, List, [], ◌∷◌, ◌⊎◌, inl, inr, refl, ap, arith, Decides}
 use Rattle.std.proofs.lemmas.List.Sums.{sum_by-cons}
 use Rattle.std.proofs.lemmas.Slice.Eq.{bytes_eq-Decides, slice_eq-Decides}
-use Rattle.server_model.specs.Bag.{IsSameBag, count_of}
-use Rattle.server_model.specs.Equal.{cell_eq, row_eq}
-use Rattle.sql_literals.specs.declared.cell.Cell.{Cell}
-use Rattle.sql_literals.specs.declared.cell.Cell.TheVariants.{Null, Value}
+use Rattle.server_data.specs.Bag.{IsSameBag, count_of}
+use Rattle.server_data.specs.Equal.{cell_eq, row_eq}
+use Rattle.sql_cells.specs.declared.cell.Cell.{Cell}
+use Rattle.sql_cells.specs.declared.cell.Cell.TheVariants.{Null, Value}
 
 cell_eq-Decides : (a b : Cell) → Decides (cell_eq a b) (a ≡ b)
 cell_eq-Decides Null Null = (λ e. refl, λ e. refl)

@@ -1,14 +1,14 @@
 -- Transactions that keep the catalogue, and one that doesn't.
 use Rattle.std.proofs.Common.{◌≡◌, ℕ, List, [], ◌∷◌, ◌++◌, Some, refl, ap, sym, ◌∙◌, subst, codes}
-use Rattle.object_texts.specs.declared.head.Kind.{Kind}
-use Rattle.server_model.specs.Fold.{change_db, db, with_row}
-use Rattle.server_model.specs.declared.data.Change.{Change}
-use Rattle.server_model.specs.declared.data.Change.TheVariants.{Drop, Make}
-use Rattle.server_model.specs.declared.data.Database.{Database}
-use Rattle.server_model.specs.declared.data.Object.{Object}
-use Rattle.server_model.specs.declared.data.Transaction.{Transaction}
-use Rattle.sql_literals.specs.declared.cell.Cell.{Cell}
-use Rattle.sql_literals.specs.declared.cell.Cell.TheVariants.{Value}
+use Rattle.object_forms.specs.declared.kind.Kind.{Kind}
+use Rattle.server_data.specs.Fold.{change_db, db, with_row}
+use Rattle.server_data.specs.declared.data.Change.{Change}
+use Rattle.server_data.specs.declared.data.Change.TheVariants.{Drop, Make}
+use Rattle.server_data.specs.declared.data.Database.{Database}
+use Rattle.server_data.specs.declared.data.Object.{Object}
+use Rattle.server_data.specs.declared.data.Transaction.{Transaction}
+use Rattle.sql_cells.specs.declared.cell.Cell.{Cell}
+use Rattle.sql_cells.specs.declared.cell.Cell.TheVariants.{Value}
 use Rattle.honest_server.specs.Catalogue.{AreOfRows, IsOfRow, KeepCatalogue, KeepsCatalogue, a_rise, a_row, no_more, one_more}
 use Rattle.honest_examples.specs.Worked.{history, one, put, row, schema, table, three, two, unmarked, with_rows}
 use Rattle.honest_examples.proofs.Worked.{stands}
@@ -48,6 +48,6 @@ pub keeps_row : (before : List Transaction) (rows : List (List Cell)) (key : Lis
 unfolding change_db
 keeps_row before rows key cell ends = record { old = with_rows rows; new = with_row (with_rows rows) schema table (row key cell); stands = ends; keeps = one_more (a_row tt refl no_more) no_more }
 
--- and so the row (3,'c') behind the worked history
+-- and so the row (3,'c') after the worked history
 pub keeps_three : KeepsCatalogue history (unmarked (put three ∷ []) ∷ [])
 keeps_three = keeps_row history (one ∷ two ∷ []) (codes "3") (Value (codes "c")) stands

@@ -2,22 +2,22 @@
 use Rattle.std.proofs.Common.{◌≡◌, Bool, true, false, List, [], ◌∷◌, ◌++◌, Option, Some, None, ℕ, refl, ap, sym, ◌∙◌, subst, codes, not, ◌&&◌, cond, arith, length, length-append, inl, inr, ◌⊎◌}
 use Rattle.std.proofs.lemmas.Bool.{false≢true, true≢false}
 use Rattle.std.specs.Prelude.{option_and_then}
-use Rattle.object_texts.specs.Head.{Making, making}
-use Rattle.object_texts.specs.Shape.{undoubled}
-use Rattle.object_texts.specs.Token.{tokens}
-use Rattle.object_texts.specs.declared.head.Kind.{Kind}
-use Rattle.object_texts.specs.declared.head.Kind.TheVariants.{Schema, Table}
-use Rattle.server_model.specs.Fold.{change_db, changes_db, db, has_object, may_make, has_place, more_db, rows_of, with_object}
-use Rattle.server_model.specs.declared.data.Change.{Change}
-use Rattle.server_model.specs.declared.data.Change.TheVariants.{Make}
-use Rattle.server_model.specs.declared.data.Database.{Database}
-use Rattle.server_model.specs.declared.data.Object.{Object}
-use Rattle.server_model.specs.declared.data.Transaction.{Transaction}
-use Rattle.sql_literals.specs.declared.cell.Cell.{Cell}
-use Rattle.sql_literals.specs.declared.cell.Cell.TheVariants.{Value}
-use Rattle.sql_statements.specs.declared.command.Command.TheVariants.{Commit, Create, Rollback, StartSnapshot, Use}
-use Rattle.sql_statements.specs.declared.query.Query.TheVariants.{Rows}
-use Rattle.sql_statements.specs.declared.statement.Statement.TheVariants.{Command as SomeCommand, Query as SomeQuery}
+use Rattle.object_forms.specs.Head.{Making, making}
+use Rattle.object_forms.specs.Shape.{name_value}
+use Rattle.object_forms.specs.Token.{tokens}
+use Rattle.object_forms.specs.declared.kind.Kind.{Kind}
+use Rattle.object_forms.specs.declared.kind.Kind.TheVariants.{Schema, Table}
+use Rattle.server_data.specs.Fold.{change_db, changes_db, db, has_object, may_make, has_place, more_db, rows_of, with_object}
+use Rattle.server_data.specs.declared.data.Change.{Change}
+use Rattle.server_data.specs.declared.data.Change.TheVariants.{Make}
+use Rattle.server_data.specs.declared.data.Database.{Database}
+use Rattle.server_data.specs.declared.data.Object.{Object}
+use Rattle.server_data.specs.declared.data.Transaction.{Transaction}
+use Rattle.sql_cells.specs.declared.cell.Cell.{Cell}
+use Rattle.sql_cells.specs.declared.cell.Cell.TheVariants.{Value}
+use Rattle.statement_forms.specs.declared.command.Command.TheVariants.{Commit, Create, Rollback, StartSnapshot, Use}
+use Rattle.statement_forms.specs.declared.query.Query.TheVariants.{Rows}
+use Rattle.statement_forms.specs.declared.statement.Statement.TheVariants.{Command as SomeCommand, Query as SomeQuery}
 use Rattle.honest_server.specs.Answer.{Answers}
 use Rattle.honest_server.specs.Effect.{IsMade, MadeIn}
 use Rattle.honest_server.specs.Moves.{MayFollow, plainly}
@@ -32,6 +32,7 @@ use Rattle.honest_examples.proofs.Inserting.{put_three, taken_key}
 use Rattle.honest_examples.proofs.Serving.{IsAlone, refuses, serves_done, serves_rows}
 use Rattle.honest_examples.proofs.Soundness.{sound_empty, sound_with_three}
 use Rattle.honest_examples.proofs.Worked.{stands, stands_alone, stands_empty, table_shape}
+use Rattle.plain_data.proofs.Options.{same_some}
 
 -- a link without the backup lock sees nothing of others
 pub free : (seen : List Transaction) (current : Option (List ℕ)) (frozen : Bool) (view : Option (List Transaction)) (pending : Option (List Change)) → seen ++ [] ≡ seen → IsAlone (record (link seen current) { frozen = frozen; view = view; pending = pending })
@@ -50,9 +51,6 @@ free seen current frozen view pending same = record {
 -- without locks anything may follow
 pub may_follow : (seen : List Transaction) (current : Option (List ℕ)) (pending : Option (List Change)) (more : List Transaction) → MayFollow (record (link seen current) { pending = pending }) more
 may_follow seen current pending more = record { frozen = λ p. absurd (false≢true p); guarded = λ p. absurd (false≢true p); shared = λ p q. absurd (true≢false q) }
-
-same_some : {X : Type 0} {x y : X} → Some x ≡ Some y → x ≡ y
-same_some e = cc
 
 pub inserts : AnInsertIsCommittedAtOnce
 inserts = record {
@@ -133,7 +131,7 @@ creates = record {
         kind = creates.made.kind ∙ ap (λ (found : Making). found.kind) found
 
         name : creates.object.name ≡ table
-        name = creates.made.name ∙ ap (λ (found : Making). undoubled found.path.name) found
+        name = creates.made.name ∙ ap (λ (found : Making). name_value found.path.name) found
 
         in_schema : creates.object.schema ≡ schema
         in_schema = made_in creates.middle.schema creates.object creates.made.found.path.schema creates.object.kind (ap (λ (state : State). state.schema) creates.ended) (ap (λ (found : Making). found.path.schema) found) kind creates.made.schema
@@ -223,7 +221,7 @@ rollback = record {
   refused = λ served. absurd (cc (ap (λ (state : State). state.mine) served.handles));
 }
 
--- an ERR behind rows
+-- an ERR after rows
 
 first_digit : List Cell → ℕ
 first_digit (Value (byte ∷ bytes) ∷ cells) = byte

@@ -1,12 +1,12 @@
 -- INSERTs into a table with a counter.
 use Rattle.std.proofs.Common.{◌<◌, ◌≡◌, ℕ, zero, suc, true, false, List, [], ◌∷◌, ◌++◌, Option, Some, None, refl, ap, sym, subst, arith, codes, All}
 use Rattle.std.proofs.lemmas.List.Elements.{All-cons}
-use Rattle.object_texts.specs.Shape.{TableCounter}
-use Rattle.server_model.specs.Fold.{change_db, db, has_object, may_drop, may_make, rows_of}
-use Rattle.server_model.specs.History.{Interleaves, here, none_left, takes, there}
-use Rattle.server_model.specs.declared.data.Change.{Change}
-use Rattle.server_model.specs.declared.data.Database.{Database}
-use Rattle.sql_literals.specs.Number.{is_number}
+use Rattle.object_forms.specs.Shape.{TableCounter}
+use Rattle.server_data.specs.Fold.{change_db, db, has_object, may_drop, may_make, rows_of}
+use Rattle.server_data.specs.History.{Interleaves, here, none_left, takes, there}
+use Rattle.server_data.specs.declared.data.Change.{Change}
+use Rattle.server_data.specs.declared.data.Database.{Database}
+use Rattle.sql_cells.specs.Number.{is_number}
 use Rattle.honest_server.specs.Catalogue.{AreOfRows, a_rise, a_row, no_more}
 use Rattle.honest_server.specs.Columns.{are_numbers, plain_columns}
 use Rattle.honest_server.specs.Insert.{AddsTo, SpellsRows, are_under, last_cell, last_row}
@@ -20,9 +20,7 @@ use Rattle.honest_examples.proofs.Commanding.{free, may_follow}
 use Rattle.honest_examples.proofs.Inserting.{spells_digit}
 use Rattle.honest_examples.proofs.Rises.{is_five, is_six, not_under, rises_to_six, says_five, well_counted}
 use Rattle.honest_examples.proofs.Soundness.{all_of_one, keys_of}
-
-same_some : {X : Type 0} {x y : X} → Some x ≡ Some y → x ≡ y
-same_some e = cc
+use Rattle.plain_data.proofs.Options.{same_some}
 
 stands : db counting ≡ Some (counted five (codes "4" ∷ []))
 unfolding change_db has_object may_make

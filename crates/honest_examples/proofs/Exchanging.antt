@@ -1,22 +1,22 @@
 -- What bytes spell replies, and what messages are answered by.
 use Rattle.std.proofs.Common.{◌≡◌, ◌≤◌, ℕ, Bool, true, false, List, [], ◌∷◌, ◌++◌, Some, None, refl, ap, sym, ◌∙◌, subst, arith, codes, length, append-nil, inr, map, drop, get_or, replicate, ◌+◌, ◌*◌, length-append}
 use Rattle.std.proofs.lemmas.List.Elements.{All-cons, All-nil}
-use Rattle.my_packets.specs.Packet.{id_behind, packet_count, packets}
+use Rattle.wire_forms.specs.Packet.{id_after, packet_count, packets}
 use Rattle.my_packets.proofs.Fronts.{same_packets}
 use Rattle.my_packets.proofs.Packets.{packets_length, short_packets}
-use Rattle.result_rows.specs.KeptText.{kept}
-use Rattle.result_rows.specs.Reading.{counted, definition as turn_definition, end, row}
-use Rattle.result_rows.specs.Reply.{reply_of}
-use Rattle.result_rows.specs.ResultSet.{IsResultSet, IsTaken, taken}
-use Rattle.result_rows.specs.Row.{Cell as SentCell}
-use Rattle.result_rows.specs.declared.reader.Reply.TheVariants.{Columns, Done}
+use Rattle.wire_forms.specs.KeptText.{short_text}
+use Rattle.wire_forms.specs.Reading.{columns_counted, definition as turn_definition, end, row}
+use Rattle.wire_forms.specs.Reply.{reply_of}
+use Rattle.wire_forms.specs.ResultSet.{IsResultSet, IsTaken, turns_of}
+use Rattle.wire_forms.specs.Row.{Cell as SentCell}
+use Rattle.wire_forms.specs.declared.reply.Reply.TheVariants.{Columns, Done}
 use Rattle.result_rows.proofs.ResultSets.{set-taken}
-use Rattle.server_model.specs.declared.data.Transaction.{Transaction}
-use Rattle.sql_statements.specs.Statement.{IsReadAs}
-use Rattle.sql_statements.specs.declared.command.Command.TheVariants.{Commit}
-use Rattle.sql_statements.specs.declared.query.Query.TheVariants.{Schemas}
-use Rattle.sql_statements.specs.declared.statement.Statement.{Statement}
-use Rattle.sql_statements.specs.declared.statement.Statement.TheVariants.{Command as SomeCommand}
+use Rattle.server_data.specs.declared.data.Transaction.{Transaction}
+use Rattle.statement_forms.specs.Statement.{IsReadAs}
+use Rattle.statement_forms.specs.declared.command.Command.TheVariants.{Commit}
+use Rattle.statement_forms.specs.declared.query.Query.TheVariants.{Schemas}
+use Rattle.statement_forms.specs.declared.statement.Statement.{Statement}
+use Rattle.statement_forms.specs.declared.statement.Statement.TheVariants.{Command as SomeCommand}
 use Rattle.honest_server.specs.Exchange.{BeginsAt, Exchanges, IsLoggingIn, packets_from, Replies, accepted, ignored, query_payload, quits, quit_payload, served, switched, turned_away, unknown}
 use Rattle.honest_server.specs.Moves.{plainly}
 use Rattle.honest_server.specs.Serve.{Reply, Serves, done, rows, refused}
@@ -33,7 +33,7 @@ no_single : (columns : ℕ) (found : List (List SentCell)) (message : List ℕ) 
 no_single columns found message set = omega (arith, ap (λ (messages : List (List ℕ)). length messages) set.messages_are, length-append set.definitions (set.middle ∷ (set.row_messages ++ set.last ∷ [])), length-append set.row_messages (set.last ∷ []))
 
 pub one_message : ACommandIsAnsweredByOneMessage
-unfolding kept
+unfolding short_text
 one_message = record {
   allowed = record { message = ok; messages_are = refl; says = refl; lean = λ p. omega arith };
   err_allowed = record { message = err; messages_are = refl; says = refl; lean = λ p. omega arith };
@@ -74,7 +74,7 @@ set = record {
 }
 
 pub its_rows : AQueryIsAnsweredByItsRows
-unfolding kept
+unfolding short_text
 its_rows = record {
   allowed = record { columns = 1; is_set = set; lean = λ p. lean eof (omega arith) };
   broken_off = inr (record { columns = 1; first = 1 ∷ []; others = definition ∷ eof ∷ (1 ∷ codes "s") ∷ err ∷ []; messages_are = refl; counts = refl; turns = refl; lean = λ p. lean err (omega arith) });
@@ -82,8 +82,8 @@ its_rows = record {
   refused = λ found spells. no_single _ _ ok spells.is_set;
 }
   where
-    turned : (columns : ℕ) (first : List ℕ) (others : List (List ℕ)) → columns ≡ 1 → others ≡ definition ∷ eof ∷ (1 ∷ codes "s") ∷ eof ∷ [] → taken (counted columns) others ≡ replicate (columns + 1) turn_definition ++ (map row ((Some (codes "ss") ∷ []) ∷ []) ++ end ∷ []) → ⊥
-    turned columns first others is_one are turns = absurd (cc (subst (λ (others : List (List ℕ)). taken (counted 1) others ≡ replicate 2 turn_definition ++ (map row ((Some (codes "ss") ∷ []) ∷ []) ++ end ∷ [])) are (subst (λ (columns : ℕ). taken (counted columns) others ≡ replicate (columns + 1) turn_definition ++ (map row ((Some (codes "ss") ∷ []) ∷ []) ++ end ∷ [])) is_one turns)))
+    turned : (columns : ℕ) (first : List ℕ) (others : List (List ℕ)) → columns ≡ 1 → others ≡ definition ∷ eof ∷ (1 ∷ codes "s") ∷ eof ∷ [] → turns_of (columns_counted columns) others ≡ replicate (columns + 1) turn_definition ++ (map row ((Some (codes "ss") ∷ []) ∷ []) ++ end ∷ []) → ⊥
+    turned columns first others is_one are turns = absurd (cc (subst (λ (others : List (List ℕ)). turns_of (columns_counted 1) others ≡ replicate 2 turn_definition ++ (map row ((Some (codes "ss") ∷ []) ∷ []) ++ end ∷ [])) are (subst (λ (columns : ℕ). turns_of (columns_counted columns) others ≡ replicate (columns + 1) turn_definition ++ (map row ((Some (codes "ss") ∷ []) ∷ []) ++ end ∷ [])) is_one turns)))
 
     other : {columns : ℕ} → IsTaken columns ((Some (codes "ss") ∷ []) ∷ []) (set_before eof) → ⊥
     other {columns} is_taken = turned columns is_taken.first is_taken.others one_column (sym (ap (λ (messages : List (List ℕ)). drop 1 messages) is_taken.messages_are)) is_taken.turns
@@ -174,8 +174,8 @@ commits = record {
         answer = by_reply told.reply exchanges.messages new told.serves told.spells
 
         bytes_are : reply ≡ packets 1 answer.0.message
-        bytes_are = exchanges.reply_is ∙ (ap (λ (id : ℕ). packets_from (id_behind (packet_count (length exchanges.payload)) id) exchanges.messages) exchanges.is_message.begins
-            ∙ (ap (λ (payload : List ℕ). packets_from (id_behind (packet_count (length payload)) 0) exchanges.messages) payload
+        bytes_are = exchanges.reply_is ∙ (ap (λ (id : ℕ). packets_from (id_after (packet_count (length exchanges.payload)) id) exchanges.messages) exchanges.is_message.begins
+            ∙ (ap (λ (payload : List ℕ). packets_from (id_after (packet_count (length payload)) 0) exchanges.messages) payload
             ∙ (ap (λ (messages : List (List ℕ)). packets_from 1 messages) answer.0.messages_are ∙ append-nil (packets 1 answer.0.message))))
 
 -- COM_QUIT
@@ -197,7 +197,7 @@ quit = record {
 }
   where
     never : (new : State) → Exchanges plainly worked (1 ∷ 0 ∷ 0 ∷ 0 ∷ 1 ∷ []) (7 ∷ 0 ∷ 0 ∷ 1 ∷ ok) new → ⊥
-    never new exchanges = absurd (cc (exchanges.reply_is ∙ ap (λ (messages : List (List ℕ)). packets_from (id_behind (packet_count (length exchanges.payload)) exchanges.is_message.id) messages) none))
+    never new exchanges = absurd (cc (exchanges.reply_is ∙ ap (λ (messages : List (List ℕ)). packets_from (id_after (packet_count (length exchanges.payload)) exchanges.is_message.id) messages) none))
       where
         same : packets 0 quit_payload ++ [] ≡ packets 0 exchanges.payload ++ []
         same = ap (λ (bytes : List ℕ). bytes ++ []) (exchanges.is_message.message_is ∙ ap (λ (id : ℕ). packets id exchanges.payload) exchanges.is_message.begins)
@@ -234,4 +234,4 @@ login = record {
         one = of_login exchanges.payload exchanges.messages new exchanges.replies
 
         id : ℕ
-        id = id_behind (packet_count (length exchanges.payload)) exchanges.is_message.id
+        id = id_after (packet_count (length exchanges.payload)) exchanges.is_message.id

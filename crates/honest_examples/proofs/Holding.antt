@@ -2,22 +2,22 @@
 use Rattle.std.proofs.Common.{◌≡◌, ◌<◌, ℕ, true, List, [], ◌∷◌, ◌++◌, Some, refl, ap, sym, ◌∙◌, subst, arith, codes, length, length-append, drop, ◌⊎◌, inl, inr}
 use Rattle.std.proofs.lemmas.Bool.{false≢true}
 use Rattle.grammar.specs.Language.{Fixed, Then}
-use Rattle.my_packets.specs.Packet.{packets}
+use Rattle.wire_forms.specs.Packet.{packets}
 use Rattle.my_packets.proofs.Fronts.{same_packets}
-use Rattle.object_texts.specs.Head.{HasHead}
-use Rattle.object_texts.specs.Token.{tokens}
-use Rattle.server_model.specs.Fold.{change_db, has_object, may_make}
-use Rattle.server_model.specs.declared.data.Transaction.{Transaction}
-use Rattle.sql_literals.specs.declared.cell.Cell.{Cell}
-use Rattle.sql_literals.specs.declared.cell.Cell.TheVariants.{Null}
-use Rattle.sql_statements.specs.Insert.{AnyInsert}
-use Rattle.sql_statements.specs.Statement.{CommandHasText, IsReadAs, IsTextOf, command_row, row_of}
-use Rattle.sql_statements.specs.Text.{command_text, query_text}
-use Rattle.sql_statements.specs.declared.command.Command.{Command}
-use Rattle.sql_statements.specs.declared.command.Command.TheVariants.{Commit, Create, CreateProgress, CreateProgressDump, CreateProgressFiles, Insert, InsertProgressDump, InsertProgressFile, Rollback, Start, StartSnapshot, Use}
-use Rattle.sql_statements.specs.declared.query.Query.{Query}
-use Rattle.sql_statements.specs.declared.statement.Statement.{Statement}
-use Rattle.sql_statements.specs.declared.statement.Statement.TheVariants.{Command as SomeCommand, Query as SomeQuery}
+use Rattle.object_forms.specs.Head.{HasHead}
+use Rattle.object_forms.specs.Token.{tokens}
+use Rattle.server_data.specs.Fold.{change_db, has_object, may_make}
+use Rattle.server_data.specs.declared.data.Transaction.{Transaction}
+use Rattle.sql_cells.specs.declared.cell.Cell.{Cell}
+use Rattle.sql_cells.specs.declared.cell.Cell.TheVariants.{Null}
+use Rattle.statement_forms.specs.Insert.{AnyInsert}
+use Rattle.statement_forms.specs.Statement.{CommandHasText, IsReadAs, IsTextOf, command_row, row_of}
+use Rattle.statement_forms.specs.Text.{command_text, query_text}
+use Rattle.statement_forms.specs.declared.command.Command.{Command}
+use Rattle.statement_forms.specs.declared.command.Command.TheVariants.{Commit, Create, CreateProgress, CreateProgressDump, CreateProgressFiles, Insert, InsertProgressDump, InsertProgressFile, Rollback, Start, StartSnapshot, Use}
+use Rattle.statement_forms.specs.declared.query.Query.{Query}
+use Rattle.statement_forms.specs.declared.statement.Statement.{Statement}
+use Rattle.statement_forms.specs.declared.statement.Statement.TheVariants.{Command as SomeCommand, Query as SomeQuery}
 use Rattle.honest_server.specs.Exchange.{BeginsAt, CommitsAlone, Exchanges, IsLoggingIn, Replies, accepted, ignored, query_payload, quits, served, switched, turned_away, unknown}
 use Rattle.honest_server.specs.Moves.{Way, beside}
 use Rattle.honest_server.specs.Serve.{IsHandled, Reply, Serves, done, rows, refused}
@@ -34,6 +34,7 @@ use Rattle.honest_examples.proofs.Exchanging.{one_message}
 use Rattle.honest_examples.proofs.Sending.{first, query_second, second}
 use Rattle.honest_examples.proofs.Soundness.{good_marks_with, sound_with}
 use Rattle.honest_examples.proofs.Worked.{stands}
+use Rattle.plain_data.proofs.Options.{same_some}
 
 -- START TRANSACTION WITH CONSISTENT SNAPSHOT is read as the command, and as nothing else
 
@@ -146,9 +147,6 @@ shows : (reply : Reply) (messages : List (List ℕ)) (new : State) → Serves (b
 shows done messages new serves spells = ap (λ (state : State). state.view) serves.handles.new_is ∙ (ap (λ (state : State). Some (state.seen)) serves.handles.ended ∙ ap (λ (seen : List Transaction). Some seen) serves.sees.joined)
 shows (rows found) messages new serves spells = absurd spells
 shows (refused found said) messages new serves spells = absurd (serves.must refl done b_views taken)
-
-same_some : {X : Type 0} {x y : X} → Some x ≡ Some y → x ≡ y
-same_some e = cc
 
 pub shown : ASnapshotShowsWhatTheHolderHasSeen
 shown = record {

@@ -7,39 +7,40 @@ use Rattle.std.proofs.lemmas.List.{append_cancel_left}
 use Rattle.std.proofs.lemmas.Slice.Eq.{bytes_eq-Decides}
 use Rattle.grammar.specs.Language.{Longest}
 use Rattle.grammar.proofs.Choices.{neither}
-use Rattle.object_texts.specs.Shape.{TableCounter}
-use Rattle.object_texts.specs.declared.head.Kind.TheVariants.{Table}
-use Rattle.server_model.specs.Fold.{change_db, changes_db, db, has_object, may_make, rows_of, with_row}
-use Rattle.server_model.specs.declared.data.Change.{Change}
-use Rattle.server_model.specs.declared.data.Database.{Database}
-use Rattle.server_model.specs.declared.data.Object.{Object}
-use Rattle.sql_literals.specs.Cell.{bytes_of}
-use Rattle.sql_literals.specs.Name.{quoted_name}
-use Rattle.sql_literals.specs.Number.{is_number}
-use Rattle.sql_literals.specs.Spelling.{Literal, Spells, cell_of}
-use Rattle.sql_literals.specs.declared.cell.Cell.{Cell}
-use Rattle.sql_literals.specs.declared.cell.Cell.TheVariants.{Null, Value}
-use Rattle.sql_literals.specs.declared.literal.CellKind.TheVariants.{Number, Text}
+use Rattle.object_forms.specs.Shape.{TableCounter}
+use Rattle.object_forms.specs.declared.kind.Kind.TheVariants.{Table}
+use Rattle.server_data.specs.Fold.{change_db, changes_db, db, has_object, may_make, rows_of, with_row}
+use Rattle.server_data.specs.declared.data.Change.{Change}
+use Rattle.server_data.specs.declared.data.Database.{Database}
+use Rattle.server_data.specs.declared.data.Object.{Object}
+use Rattle.sql_cells.specs.Cell.{bytes_of}
+use Rattle.sql_cells.specs.Name.{quoted_name}
+use Rattle.sql_cells.specs.Number.{is_number}
+use Rattle.sql_cells.specs.Spelling.{Literal, Spells, cell_of}
+use Rattle.sql_cells.specs.declared.cell.Cell.{Cell}
+use Rattle.sql_cells.specs.declared.cell.Cell.TheVariants.{Null, Value}
+use Rattle.sql_cells.specs.declared.cell_kind.CellKind.TheVariants.{Number, Text}
 use Rattle.sql_literals.proofs.CellKinds.{read_back}
 use Rattle.sql_literals.proofs.HexReads.{no_empty_hex}
 use Rattle.sql_literals.proofs.LiteralReads.{no_empty_null}
 use Rattle.sql_literals.proofs.NumberReads.{no_empty_number}
 use Rattle.sql_literals.proofs.TextReads.{no_empty_text}
-use Rattle.sql_statements.specs.Text.{names}
-use Rattle.sql_statements.specs.declared.command.Command.TheVariants.{Insert}
-use Rattle.honest_server.specs.Answer.{holds, object_at}
+use Rattle.statement_forms.specs.Text.{names}
+use Rattle.statement_forms.specs.declared.command.Command.TheVariants.{Insert}
+use Rattle.honest_server.specs.Answer.{has_bytes, object_at}
 use Rattle.honest_server.specs.Catalogue.{a_row, no_more}
 use Rattle.honest_server.specs.Columns.{are_numbers, plain_columns, plain_names}
 use Rattle.honest_server.specs.Effect.{Effect, GoesInto}
 use Rattle.honest_server.specs.Insert.{AddsTo, Inserts, SpellsCells, SpellsInsert, SpellsRows, are_under, last_cell, last_row, next_cell, next_row}
 use Rattle.honest_server.specs.Moves.{MayFollow, plainly}
 use Rattle.honest_server.specs.Serve.{FitsNowhere, Handles, done, rows, refused}
-use Rattle.honest_server.specs.State.{State, found_by, open_changes, with_others, with_own}
+use Rattle.honest_server.specs.State.{State, database_found_by, open_changes, with_others, with_own}
 use Rattle.honest_server.specs.WellFormed.{HasKeys, HasKeysWhere, IsSound}
 use Rattle.honest_examples.proofs.Soundness.{all_of_one, keys_of, sound_with_three}
 use Rattle.honest_examples.proofs.Worked.{no_counter, rows_are, stands}
 use Rattle.honest_examples.specs.Effects.{insert, with_three, worked}
 use Rattle.honest_examples.specs.Worked.{a, database, one, put, row, schema, table, the_table, three, two, unmarked, with_rows}
+use Rattle.plain_data.proofs.Options.{same_some}
 
 no_empty_literal : Literal [] → ⊥
 unfolding Literal
@@ -79,10 +80,10 @@ record BeginsWithOne (cells : List Cell) : Type 0 where
 
 first_cell : {spelled : List ℕ} {cells : List Cell} → SpellsCells spelled cells → (rest : List ℕ) → spelled ++ rest ≡ inside → BeginsWithOne cells
 first_cell (last_cell {bytes} {cell} spells) rest whole = record { others = []; cells_are = ap (λ (first : Cell). first ∷ []) (is_one bytes cell (first_literal bytes rest spells.literal whole) spells) }
-first_cell (next_cell {bytes} {rest = behind} {whole = spelled} {cell} {cells} spells others is_whole) rest whole = record { others = cells; cells_are = ap (λ (first : Cell). first ∷ cells) (is_one bytes cell (first_literal bytes (codes "," ++ (behind ++ rest)) spells.literal joined) spells) }
+first_cell (next_cell {bytes} {rest = after} {whole = spelled} {cell} {cells} spells others is_whole) rest whole = record { others = cells; cells_are = ap (λ (first : Cell). first ∷ cells) (is_one bytes cell (first_literal bytes (codes "," ++ (after ++ rest)) spells.literal joined) spells) }
   where
-    joined : bytes ++ (codes "," ++ (behind ++ rest)) ≡ inside
-    joined = sym (append_assoc bytes (codes ",") (behind ++ rest)) ∙ (sym (append_assoc (bytes ++ codes ",") behind rest) ∙ (ap (λ (front : List ℕ). front ++ rest) (sym is_whole) ∙ whole))
+    joined : bytes ++ (codes "," ++ (after ++ rest)) ≡ inside
+    joined = sym (append_assoc bytes (codes ",") (after ++ rest)) ∙ (sym (append_assoc (bytes ++ codes ",") after rest) ∙ (ap (λ (front : List ℕ). front ++ rest) (sym is_whole) ∙ whole))
 
 -- rows of which the first begins with 1
 record BeginWithOne (found : List (List Cell)) : Type 0 where
@@ -93,7 +94,7 @@ record BeginWithOne (found : List (List Cell)) : Type 0 where
 
 first_row : {body : List ℕ} {found : List (List Cell)} → SpellsRows body found → body ≡ codes "(1,'b')" → BeginWithOne found
 first_row (last_row {cells} {whole} {row} spells is_whole) same = record { first = row; others = []; rows_are = refl; begins = first_cell spells (codes ")") (cc (sym is_whole ∙ same)) }
-first_row (next_row {cells} {rest} {whole} {row} {rows = others} spells behind is_whole) same = record { first = row; others = others; rows_are = refl; begins = first_cell spells (codes "),\n" ++ rest) (sym (append_assoc cells (codes "),\n") rest) ∙ cc (sym is_whole ∙ same)) }
+first_row (next_row {cells} {rest} {whole} {row} {rows = others} spells after is_whole) same = record { first = row; others = others; rows_are = refl; begins = first_cell spells (codes "),\n" ++ rest) (sym (append_assoc cells (codes "),\n") rest) ∙ cc (sym is_whole ∙ same)) }
 
 -- the only table is the worked one
 pub record IsTheTable (name : List ℕ) (object : Object) : Type 0 where
@@ -141,10 +142,7 @@ taken_in : (found_in : Database) (current name : List ℕ) (columns : List (List
 taken_in found_in current name columns found changes same_database same_schema spells inserts =
     taken name columns found changes spells (subst (λ (current : List ℕ). Inserts database current name columns found changes) same_schema (subst (λ (found_in : Database). Inserts found_in current name columns found changes) same_database inserts))
 
-same_some : {X : Type 0} {x y : X} → Some x ≡ Some y → x ≡ y
-same_some e = cc
-
-found_worked : found_by worked ≡ Some database
+found_worked : database_found_by worked ≡ Some database
 unfolding change_db has_object may_make
 found_worked = refl
 
@@ -159,7 +157,7 @@ or_right : (a b : Bool) → b ≡ true → (a || b) ≡ true
 or_right true b e = refl
 or_right false b e = e
 
-has_next : (cells rest : List ℕ) → holds (codes "),\n") (cells ++ (codes "),\n" ++ rest)) ≡ true
+has_next : (cells rest : List ℕ) → has_bytes (codes "),\n") (cells ++ (codes "),\n" ++ rest)) ≡ true
 has_next [] rest = refl
 has_next (byte ∷ cells) rest = or_right (bytes_eq (codes "),\n") (take 3 (byte ∷ (cells ++ (codes "),\n" ++ rest))))) _ (has_next cells rest)
 
@@ -167,9 +165,9 @@ pub record IsOneRow (found : List (List Cell)) : Type 0 where
   pub only : List Cell
   pub rows_are : found ≡ only ∷ []
 
-pub one_row : {body : List ℕ} {found : List (List Cell)} → SpellsRows body found → holds (codes "),\n") body ≡ false → IsOneRow found
+pub one_row : {body : List ℕ} {found : List (List Cell)} → SpellsRows body found → has_bytes (codes "),\n") body ≡ false → IsOneRow found
 one_row (last_row {row} spells is_whole) none = record { only = row; rows_are = refl }
-one_row (next_row {cells} {rest} {whole} {row} {rows = others} spells behind is_whole) none = absurd (false≢true (sym none ∙ (ap (λ (body : List ℕ). holds (codes "),\n") body) (is_whole ∙ append_assoc (codes "(" ++ cells) (codes "),\n") rest) ∙ has_next (codes "(" ++ cells) rest)))
+one_row (next_row {cells} {rest} {whole} {row} {rows = others} spells after is_whole) none = absurd (false≢true (sym none ∙ (ap (λ (body : List ℕ). has_bytes (codes "),\n") body) (is_whole ∙ append_assoc (codes "(" ++ cells) (codes "),\n") rest) ∙ has_next (codes "(" ++ cells) rest)))
 
 -- what spells rows of one digit
 
@@ -211,6 +209,6 @@ put_row state before key cell spelled current none stands spells numbers keys fo
   };
 }
 
--- the row (3,'c') behind the worked history
+-- the row (3,'c') after the worked history
 pub put_three : (guarded : Bool) → MayFollow (record worked { guarded = guarded }) (unmarked (put three ∷ []) ∷ []) → Handles (with_others (record worked { guarded = guarded }) []) (insert (codes "(3,'c')")) done (with_three (record worked { guarded = guarded }))
 put_three guarded follows = put_row (with_others (record worked { guarded = guarded }) []) (one ∷ two ∷ []) (codes "3") (Value (codes "c")) (codes "(3,'c')") refl refl stands spells_three refl (keys_of (a ∷ []) (one ∷ two ∷ three ∷ []) (1 ∷ 2 ∷ 3 ∷ []) refl refl) follows sound_with_three

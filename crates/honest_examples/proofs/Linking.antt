@@ -2,12 +2,12 @@
 use Rattle.std.proofs.Common.{◌≡◌, ℕ, true, List, [], ◌∷◌, ◌++◌, Some, None, refl, ap, sym, ◌∙◌, subst, arith, length, length-append, codes, ◌⊎◌, get_or, inl, inr}
 use Rattle.std.proofs.lemmas.Bool.{true≢false}
 use Rattle.std.proofs.lemmas.List.Elements.{All-nil}
-use Rattle.my_packets.specs.Packet.{packets}
+use Rattle.wire_forms.specs.Packet.{packets}
 use Rattle.my_packets.proofs.Packets.{packets_length}
-use Rattle.server_model.specs.declared.data.Transaction.{Transaction}
-use Rattle.sql_literals.specs.declared.cell.Cell.{Cell}
-use Rattle.sql_statements.specs.declared.command.Command.TheVariants.{Commit}
-use Rattle.sql_statements.specs.declared.statement.Statement.TheVariants.{Command as SomeCommand}
+use Rattle.server_data.specs.declared.data.Transaction.{Transaction}
+use Rattle.sql_cells.specs.declared.cell.Cell.{Cell}
+use Rattle.statement_forms.specs.declared.command.Command.TheVariants.{Commit}
+use Rattle.statement_forms.specs.declared.statement.Statement.TheVariants.{Command as SomeCommand}
 use Rattle.honest_server.specs.Effect.{EndsOpen}
 use Rattle.honest_server.specs.Exchange.{CommitsAlone, Exchanges, query_payload, served}
 use Rattle.honest_server.specs.Moves.{plainly}
@@ -26,7 +26,7 @@ use Rattle.honest_examples.proofs.Soundness.{sound_with_three}
 pub waits : TheAnswerWaits
 waits = record {
   allowed = record { reply = ok_packet; exchanges = commits.allowed; waits = refl; alive = refl };
-  behind = record { reply = ok_packet; exchanges = commits.allowed; waits = refl; alive = refl };
+  after = record { reply = ok_packet; exchanges = commits.allowed; waits = refl; alive = refl };
   refused = λ answered. let told = commits.nothing_else answered.reply worked answered.exchanges in
       omega (arith, ap (λ (bytes : List ℕ). length bytes) (answered.waits ∙ told.0.bytes_are), packets_length 1 told.0.message);
 }

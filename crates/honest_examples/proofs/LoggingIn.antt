@@ -1,13 +1,13 @@
 -- What a login is answered by, and a command that is no statement.
 use Rattle.std.proofs.Common.{◌≡◌, ◌≢◌, ◌<◌, ◌+◌, ◌*◌, ℕ, false, List, [], ◌∷◌, ◌++◌, Some, None, refl, ap, sym, ◌∙◌, subst, arith, length, append-nil, drop, ◌⊎◌, inl, inr}
 use Rattle.std.proofs.lemmas.Bool.{true≢false}
-use Rattle.my_packets.specs.Packet.{id_behind, packet_count, packets}
+use Rattle.wire_forms.specs.Packet.{id_after, packet_count, packets}
 use Rattle.my_packets.proofs.Fronts.{same_packets}
 use Rattle.my_packets.proofs.Packets.{packets_length, short_packets}
-use Rattle.result_rows.specs.KeptText.{kept}
-use Rattle.result_rows.specs.Reply.{reply_of}
-use Rattle.result_rows.specs.declared.refusal.Refusal.{Refusal}
-use Rattle.result_rows.specs.declared.reader.Reply.TheVariants.{Done, Refused}
+use Rattle.wire_forms.specs.KeptText.{short_text}
+use Rattle.wire_forms.specs.Reply.{reply_of}
+use Rattle.wire_forms.specs.declared.refusal.Refusal.{Refusal}
+use Rattle.wire_forms.specs.declared.reply.Reply.TheVariants.{Done, Refused}
 use Rattle.honest_server.specs.Exchange.{AsksFor, Exchanges, IsLoggingIn, packets_from, Replies, accepted, ignored, quits, served, switched, turned_away, unknown}
 use Rattle.honest_server.specs.Moves.{plainly}
 use Rattle.honest_server.specs.State.{State, greeted, over, switching}
@@ -18,7 +18,7 @@ use Rattle.honest_examples.specs.Worked.{history, schema}
 use Rattle.honest_examples.proofs.Commanding.{free}
 use Rattle.honest_examples.proofs.Exchanging.{one_message}
 
--- the only message of a short reply stands behind a header
+-- the only message of a short reply stands after a header
 pub only_message : (id : ℕ) (message whole : List ℕ) → id < 256 → length whole < 16777215 → whole ≡ packets id message ++ [] → message ≡ drop 4 whole
 only_message id message whole byte short is = sym (ap (λ (bytes : List ℕ). drop 4 bytes) (bare ∙ short_packets id message byte (omega (arith, size, short))))
   where
@@ -33,7 +33,7 @@ pub of_exchange : {state new : State} {message reply : List ℕ} → (exchange :
 of_exchange {state} {new} {message} {reply} exchange one short are = only_message id one reply (omega arith) short (exchange.reply_is ∙ ap (λ (messages : List (List ℕ)). packets_from id messages) are)
   where
     id : ℕ
-    id = id_behind (packet_count (length exchange.payload)) exchange.is_message.id
+    id = id_after (packet_count (length exchange.payload)) exchange.is_message.id
 
 -- a login is taken, or the plugin is asked for, or it is turned away
 record IsTurnedAway (state : State) (message : List ℕ) (new : State) : Type 0 where
@@ -83,7 +83,7 @@ err_asks_not (inl (is_native, found, asked)) = absurd (cc (is_native))
 err_asks_not (inr (other, unsupported)) = absurd (cc (unsupported))
 
 pub away : ALoginIsTurnedAway
-unfolding packets kept
+unfolding packets short_text
 away = record {
   allowed = record { payload = 0 ∷ []; is_message = record { id = 1; begins = tt; message_is = refl }; messages = err ∷ []; replies = turned_away refusal tt refl (record { message = err; messages_are = refl; says = refl; lean = λ p. omega arith }) refl; reply_is = refl };
   closes = λ new exchange. closed new (answers_login unwilling_login new exchange.payload err exchange.messages tt (λ one are. of_exchange exchange one (omega arith) are) exchange.replies);
@@ -106,7 +106,7 @@ abbrev ping_payload : List ℕ
 ping_payload = 14 ∷ []
 
 no_ok : (payload : List ℕ) (messages : List (List ℕ)) (new : State) → payload ≡ ping_payload → ((one : List ℕ) → messages ≡ one ∷ [] → one ≡ ok) → messages ≢ [] → Replies plainly worked payload messages new → ⊥
-unfolding kept
+unfolding short_text
 no_ok payload messages new is only some (accepted logging spells new_is) = logging
 no_ok payload messages new is only some (switched message phase asks lean messages_are new_is) = cc (phase)
 no_ok payload messages new is only some (turned_away said logging unwilling spells new_is) = logging
@@ -136,4 +136,4 @@ pinged = record {
         payload = sym (same_packets 0 ping_payload exchange.payload [] [] (ap (λ (bytes : List ℕ). bytes ++ []) (exchange.is_message.message_is ∙ ap (λ (id : ℕ). packets id exchange.payload) exchange.is_message.begins))).0
 
         some : exchange.messages ≢ []
-        some none = cc (exchange.reply_is ∙ ap (λ (messages : List (List ℕ)). packets_from (id_behind (packet_count (length exchange.payload)) exchange.is_message.id) messages) none)
+        some none = cc (exchange.reply_is ∙ ap (λ (messages : List (List ℕ)). packets_from (id_after (packet_count (length exchange.payload)) exchange.is_message.id) messages) none)

@@ -1,6 +1,6 @@
 -- Which bytes are whole messages.
 use Rattle.std.proofs.Common.{◌≡◌, ◌+◌, ◌*◌, ℕ, List, refl, ap, sym, ◌∙◌, arith, codes, length, get_or}
-use Rattle.my_packets.specs.Packet.{packet_count, packets}
+use Rattle.wire_forms.specs.Packet.{packet_count, packets}
 use Rattle.my_packets.proofs.Packets.{packets_length, short_packets}
 use Rattle.honest_server.specs.Exchange.{IsMessage, query_payload}
 use Rattle.honest_server.specs.State.{in_session}

@@ -4,17 +4,17 @@ use Rattle.std.proofs.Common.{◌≡◌, true, false, List, [], ◌∷◌, Optio
 use Rattle.std.specs.Prelude.{option_and_then}
 use Rattle.std.specs.Str.{chars, is_utf8}
 use Rattle.std.proofs.lemmas.List.Elements.{All-cons, All-nil}
-use Rattle.object_texts.specs.Shape.{TableCounter, counter}
-use Rattle.object_texts.specs.Token.{tokens}
-use Rattle.object_texts.specs.declared.head.Kind.TheVariants.{Table}
-use Rattle.server_model.specs.Fold.{change_db, changes_db, db, has_object, may_make, rows_of}
-use Rattle.server_model.specs.declared.data.Change.TheVariants.{Put}
-use Rattle.server_model.specs.declared.data.Database.{Database}
-use Rattle.sql_literals.specs.declared.cell.Cell.{Cell}
-use Rattle.sql_literals.specs.declared.cell.Cell.TheVariants.{Value}
-use Rattle.sql_statements.specs.Text.{command_text}
-use Rattle.sql_statements.specs.declared.command.Command.TheVariants.{CreateProgress, CreateProgressFiles, InsertProgressFile}
-use Rattle.sql_statements.specs.declared.statement.Statement.TheVariants.{Command as SomeCommand}
+use Rattle.object_forms.specs.Shape.{TableCounter, counter}
+use Rattle.object_forms.specs.Token.{tokens}
+use Rattle.object_forms.specs.declared.kind.Kind.TheVariants.{Table}
+use Rattle.server_data.specs.Fold.{change_db, changes_db, db, has_object, may_make, rows_of}
+use Rattle.server_data.specs.declared.data.Change.TheVariants.{Put}
+use Rattle.server_data.specs.declared.data.Database.{Database}
+use Rattle.sql_cells.specs.declared.cell.Cell.{Cell}
+use Rattle.sql_cells.specs.declared.cell.Cell.TheVariants.{Value}
+use Rattle.statement_forms.specs.Text.{command_text}
+use Rattle.statement_forms.specs.declared.command.Command.TheVariants.{CreateProgress, CreateProgressFiles, InsertProgressFile}
+use Rattle.statement_forms.specs.declared.statement.Statement.TheVariants.{Command as SomeCommand}
 use Rattle.honest_server.specs.Answer.{object_at, progress_schema}
 use Rattle.honest_server.specs.Catalogue.{a_row, no_more}
 use Rattle.honest_server.specs.Columns.{are_numbers, plain_columns}
@@ -30,9 +30,7 @@ use Rattle.honest_examples.proofs.Bags.{same_rows}
 use Rattle.honest_examples.proofs.Commanding.{free, may_follow}
 use Rattle.honest_examples.proofs.Serving.{refuses, serves_done}
 use Rattle.honest_examples.proofs.Soundness.{all_of_one}
-
-same_some : {X : Type 0} {x y : X} → Some x ≡ Some y → x ≡ y
-same_some e = cc
+use Rattle.plain_data.proofs.Options.{same_some}
 
 -- what the texts say
 

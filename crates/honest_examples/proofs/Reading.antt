@@ -1,17 +1,17 @@
 -- The text COMMIT is read as the command, and as nothing else.
 use Rattle.std.proofs.Common.{◌≡◌, ◌<◌, ℕ, List, [], ◌∷◌, ◌++◌, refl, ap, sym, ◌∙◌, arith, ◌⊎◌, inl, inr, codes, subst}
 use Rattle.grammar.specs.Language.{Fixed, Then}
-use Rattle.object_texts.specs.Head.{HasHead}
-use Rattle.object_texts.specs.Token.{tokens}
-use Rattle.sql_statements.specs.Insert.{AnyInsert}
-use Rattle.sql_statements.specs.Statement.{CommandHasText, IsReadAs, IsTextOf, command_row, row_of}
-use Rattle.sql_statements.specs.Text.{command_text, query_text}
-use Rattle.sql_statements.specs.declared.command.Command.{Command}
-use Rattle.sql_statements.specs.declared.command.Command.TheVariants.{Commit, Rollback, Use, Create, CreateProgress, CreateProgressFiles, CreateProgressDump, Insert, InsertProgressFile, InsertProgressDump}
-use Rattle.sql_statements.specs.declared.query.Query.{Query}
-use Rattle.sql_statements.specs.declared.query.Query.TheVariants.{MasterStatus}
-use Rattle.sql_statements.specs.declared.statement.Statement.{Statement}
-use Rattle.sql_statements.specs.declared.statement.Statement.TheVariants.{Command as SomeCommand, Query as SomeQuery}
+use Rattle.object_forms.specs.Head.{HasHead}
+use Rattle.object_forms.specs.Token.{tokens}
+use Rattle.statement_forms.specs.Insert.{AnyInsert}
+use Rattle.statement_forms.specs.Statement.{CommandHasText, IsReadAs, IsTextOf, command_row, row_of}
+use Rattle.statement_forms.specs.Text.{command_text, query_text}
+use Rattle.statement_forms.specs.declared.command.Command.{Command}
+use Rattle.statement_forms.specs.declared.command.Command.TheVariants.{Commit, Rollback, Use, Create, CreateProgress, CreateProgressFiles, CreateProgressDump, Insert, InsertProgressFile, InsertProgressDump}
+use Rattle.statement_forms.specs.declared.query.Query.{Query}
+use Rattle.statement_forms.specs.declared.query.Query.TheVariants.{MasterStatus}
+use Rattle.statement_forms.specs.declared.statement.Statement.{Statement}
+use Rattle.statement_forms.specs.declared.statement.Statement.TheVariants.{Command as SomeCommand, Query as SomeQuery}
 
 abbrev text : List ℕ
 text = codes "COMMIT"

@@ -2,14 +2,14 @@
 use Rattle.std.proofs.Common.{◌≡◌, ℕ, suc, List, [], ◌∷◌, ◌++◌, Some, refl, ap, sym, ◌∙◌, subst, arith, length, get_or, All, ◌⊎◌, inl, inr}
 use Rattle.std.proofs.lemmas.Bool.{false≢true, true≢false}
 use Rattle.std.proofs.lemmas.List.Elements.{All-cons, All-nil}
-use Rattle.my_packets.specs.Packet.{packets}
+use Rattle.wire_forms.specs.Packet.{packets}
 use Rattle.my_packets.proofs.Packets.{packets_length}
-use Rattle.server_model.specs.Fold.{change_db, has_object, may_make}
-use Rattle.server_model.specs.History.{Interleaves, IsPrefix, TakesHead, here, none_left, takes, there}
-use Rattle.server_model.specs.declared.data.Change.{Change}
-use Rattle.server_model.specs.declared.data.Change.TheVariants.{Put}
-use Rattle.server_model.specs.declared.data.Transaction.{Transaction}
-use Rattle.sql_literals.specs.declared.cell.Cell.TheVariants.{Value}
+use Rattle.server_data.specs.Fold.{change_db, has_object, may_make}
+use Rattle.server_data.specs.History.{Interleaves, IsPrefix, TakesHead, here, none_left, takes, there}
+use Rattle.server_data.specs.declared.data.Change.{Change}
+use Rattle.server_data.specs.declared.data.Change.TheVariants.{Put}
+use Rattle.server_data.specs.declared.data.Transaction.{Transaction}
+use Rattle.sql_cells.specs.declared.cell.Cell.TheVariants.{Value}
 use Rattle.honest_server.specs.State.{State}
 use Rattle.honest_server.specs.WellFormed.{IsSound, IsWellFormed}
 use Rattle.honest_examples.specs.Sites.{AGrantComesFirst, ANewLinkHasSeenTheHistory, ANewLinkIsGreeted, ConnectingLeavesTheHistory, GrantsArePrefixesOfOneList, LinksPutDifferentKeys, TheHistoryIsToldOnceAllAreBack, of_both, puts_five, puts_four, puts_three, greeting}
@@ -17,9 +17,7 @@ use Rattle.honest_examples.specs.Worked.{database, history, one, three, two, unm
 use Rattle.honest_examples.proofs.Changes.{keeps_nothing}
 use Rattle.honest_examples.proofs.Soundness.{all_of_one, sound, sound_with_three, with_wrong}
 use Rattle.honest_examples.proofs.Worked.{stands}
-
-same_some : {X : Type 0} {x y : X} → Some x ≡ Some y → x ≡ y
-same_some e = cc
+use Rattle.plain_data.proofs.Options.{same_some}
 
 -- the first byte of the key of the row that is put first
 abbrev first_digit : List Change → ℕ
@@ -135,7 +133,7 @@ of_two (there (there {lists = lists} head)) first second ones others is = let no
 
 first_of_both : {lists : List (List Transaction)} {whole : List Transaction} → Interleaves lists whole → lists ≡ of_both → (x : Transaction) (rest : List Transaction) → whole ≡ x ∷ rest → (x ≡ puts_three) ⊎ (x ≡ puts_five)
 first_of_both (none_left none) is x rest whole_is = absurd (cc)
-first_of_both (takes {x = taken} head behind) is x rest whole_is = subst (λ (first : Transaction). (first ≡ puts_three) ⊎ (first ≡ puts_five)) (cc) (of_two head puts_three puts_five (puts_four ∷ []) [] is)
+first_of_both (takes {x = taken} head after) is x rest whole_is = subst (λ (first : Transaction). (first ≡ puts_three) ⊎ (first ≡ puts_five)) (cc) (of_two head puts_three puts_five (puts_four ∷ []) [] is)
 
 pub a_then_both : Interleaves of_both (puts_three ∷ puts_five ∷ puts_four ∷ [])
 a_then_both = takes here (takes (there here) (takes here (none_left two_empty)))

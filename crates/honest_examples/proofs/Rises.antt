@@ -4,22 +4,22 @@ use Rattle.std.proofs.Common.{append-nil, ◌++◌, ◌≡◌, ◌<◌, ℕ, zer
 use Rattle.std.proofs.lemmas.Bool.{false≢true}
 use Rattle.std.specs.List.{list_all}
 use Rattle.std.proofs.lemmas.List.Sums.{AllPass-from_list_all}
-use Rattle.server_model.proofs.Counts.{and_left, and_right}
+use Rattle.server_data.proofs.Counts.{and_left, and_right}
 use Rattle.honest_server.specs.Insert.{is_under_where}
 use Rattle.std.proofs.lemmas.List.Elements.{All-cons, All-nil}
 use Rattle.std.specs.Str.{chars, is_utf8}
-use Rattle.object_texts.specs.Shape.{TableCounter, counter}
-use Rattle.object_texts.specs.Token.{tokens}
-use Rattle.object_texts.specs.declared.head.Kind.TheVariants.{Table}
-use Rattle.object_texts.specs.declared.shape.Column.{Column}
-use Rattle.server_model.specs.Bag.{IsSameBag, count_of}
-use Rattle.server_model.specs.Fold.{change_db, has_object, may_drop, may_make, rows_of}
-use Rattle.server_model.specs.declared.data.Change.{Change}
-use Rattle.server_model.specs.declared.data.Change.TheVariants.{Make, Put}
-use Rattle.server_model.specs.declared.data.Object.{Object}
-use Rattle.sql_literals.specs.declared.cell.Cell.{Cell}
+use Rattle.object_forms.specs.Shape.{TableCounter, counter}
+use Rattle.object_forms.specs.Token.{tokens}
+use Rattle.object_forms.specs.declared.kind.Kind.TheVariants.{Table}
+use Rattle.object_forms.specs.declared.shape.Column.{Column}
+use Rattle.server_data.specs.Bag.{IsSameBag, count_of}
+use Rattle.server_data.specs.Fold.{change_db, has_object, may_drop, may_make, rows_of}
+use Rattle.server_data.specs.declared.data.Change.{Change}
+use Rattle.server_data.specs.declared.data.Change.TheVariants.{Make, Put}
+use Rattle.server_data.specs.declared.data.Object.{Object}
+use Rattle.sql_cells.specs.declared.cell.Cell.{Cell}
 use Rattle.honest_server.specs.Catalogue.{IsRise, RaisesCounter, a_rise, no_more, one_more}
-use Rattle.sql_literals.specs.Number.{is_digits}
+use Rattle.sql_cells.specs.Number.{is_digits}
 use Rattle.honest_server.specs.Columns.{are_numbers, integer_at, is_under, plain_columns, whole_at}
 use Rattle.honest_server.specs.WellFormed.{HasGoodRows, HasItsHead, IsCounted, IsCountedWhere, IsShaped, IsWellFormed, IsWellFormedObject, is_name}
 use Rattle.honest_examples.specs.Catalogue.{ACounterRises, ANumberIsUnderItsCounter, RowsAndCountersKeepTheCatalogue, anew, counted, five, numbered, of_number, seven, six, text_with, with_counter}
@@ -53,10 +53,10 @@ unfolding is_utf8 chars encode
 named = refl
 
 -- the table with its counter, its text's head and shape
-pub record IsCountedTable (behind : List ℕ) (next : ℕ) : Type 0 where
-  pub head : HasItsHead (with_counter behind)
-  pub shape : IsShaped (with_counter behind)
-  pub says : counter (text_with behind) ≡ Some (counter_at next)
+pub record IsCountedTable (after : List ℕ) (next : ℕ) : Type 0 where
+  pub head : HasItsHead (with_counter after)
+  pub shape : IsShaped (with_counter after)
+  pub says : counter (text_with after) ≡ Some (counter_at next)
 
 pub is_five : IsCountedTable five 5
 unfolding tokens is_utf8 chars encode
@@ -66,10 +66,10 @@ pub is_six : IsCountedTable six 6
 unfolding tokens is_utf8 chars encode
 is_six = record { head = record { found = _; is_making = refl; kind = refl; name = refl; schema = tt; own = λ e. cc }; shape = record { found = _; is_shape = refl; columns = refl; key = refl }; says = refl }
 
-numbered_rows : (behind : List ℕ) (numbers : List (List ℕ)) → rows_of (counted behind numbers) schema numbered ≡ map of_number numbers
+numbered_rows : (after : List ℕ) (numbers : List (List ℕ)) → rows_of (counted after numbers) schema numbered ≡ map of_number numbers
 unfolding rows_of
-numbered_rows behind [] = refl
-numbered_rows behind (digits ∷ numbers) = ap (λ (rows : List (List Cell)). of_number digits ∷ rows) (numbered_rows behind numbers)
+numbered_rows after [] = refl
+numbered_rows after (digits ∷ numbers) = ap (λ (rows : List (List Cell)). of_number digits ∷ rows) (numbered_rows after numbers)
 
 abbrev IsUnder : ℕ → List Cell → Type 0
 IsUnder next cells = IfSome (whole_at (id ∷ []) 0 cells) (λ number. is_under id next number ≡ true) × (whole_at (id ∷ []) 0 cells ≢ None)
@@ -83,18 +83,18 @@ under_each next (cells ∷ rows) all = All-cons (IsUnder next) cells rows (by_nu
     by_number (Some number) is = (is, λ e. cc)
 
 -- the rows of such a table are good where their keys are, and are under the counter
-pub well_counted : (behind : List ℕ) (next : ℕ) (digits : List (List ℕ)) (numbers : List ℕ) → IsCountedTable behind next → list_all (are_numbers (plain_columns (id ∷ []))) (map of_number digits) ≡ true → map (integer_at (id ∷ []) 0) (map of_number digits) ≡ map some_key numbers → are_keys numbers ≡ true
-    → list_all (λ cells. is_under_where id next (whole_at (id ∷ []) 0 cells)) (map of_number digits) ≡ true → IsWellFormed (counted behind digits)
-well_counted behind next digits numbers is are_numbers_all read keys under = record { objects = All-cons (IsWellFormedObject (counted behind digits)) the_schema (with_counter behind ∷ []) (good_schema (counted behind digits)) (all_of_one (IsWellFormedObject (counted behind digits)) (with_counter behind) second) }
+pub well_counted : (after : List ℕ) (next : ℕ) (digits : List (List ℕ)) (numbers : List ℕ) → IsCountedTable after next → list_all (are_numbers (plain_columns (id ∷ []))) (map of_number digits) ≡ true → map (integer_at (id ∷ []) 0) (map of_number digits) ≡ map some_key numbers → are_keys numbers ≡ true
+    → list_all (λ cells. is_under_where id next (whole_at (id ∷ []) 0 cells)) (map of_number digits) ≡ true → IsWellFormed (counted after digits)
+well_counted after next digits numbers is are_numbers_all read keys under = record { objects = All-cons (IsWellFormedObject (counted after digits)) the_schema (with_counter after ∷ []) (good_schema (counted after digits)) (all_of_one (IsWellFormedObject (counted after digits)) (with_counter after) second) }
   where
     rows : List (List Cell)
     rows = map of_number digits
 
-    good : HasGoodRows (with_counter behind) (map of_number digits)
+    good : HasGoodRows (with_counter after) (map of_number digits)
     good = record { numbers = AllPass-from_list_all _ (map of_number digits) are_numbers_all; keys = keys_of [] (map of_number digits) numbers read keys; counted = subst (λ (found : Option TableCounter). IsCountedWhere (id ∷ []) found (map of_number digits)) (sym is.says) (record { column = id; column_is = refl; integers = under_each next (map of_number digits) under }) }
 
-    second : IsWellFormedObject (counted behind digits) (with_counter behind)
-    second = record { named = named; in_schema = schema_named; head = is.head; settings = refl; shape = is.shape; table = tt; rows = subst (λ (rows : List (List Cell)). HasGoodRows (with_counter behind) rows) (sym (numbered_rows behind digits)) good; needs = All-nil _; rank = omega arith }
+    second : IsWellFormedObject (counted after digits) (with_counter after)
+    second = record { named = named; in_schema = schema_named; head = is.head; settings = refl; shape = is.shape; table = tt; rows = subst (λ (rows : List (List Cell)). HasGoodRows (with_counter after) rows) (sym (numbered_rows after digits)) good; needs = All-nil _; rank = omega arith }
 
 -- and a number at the counter isn't
 pub not_under : (digits : List (List ℕ)) (more : List (List Cell)) → map of_number digits ≡ of_number (codes "4") ∷ of_number (codes "5") ∷ more → IsWellFormed (counted five digits) → ⊥
@@ -116,7 +116,7 @@ from_none = record {
   front = text_with [];
   before = [];
   now = five;
-  behind = [];
+  after = [];
   old_is = refl;
   new_is = refl;
   before_is = inl refl;
@@ -137,7 +137,7 @@ from_five digits next are_digits says greater = record {
   front = text_with [];
   before = five;
   now = codes " AUTO_INCREMENT=" ++ digits;
-  behind = [];
+  after = [];
   old_is = refl;
   new_is = sym (append-nil (text_with (codes " AUTO_INCREMENT=" ++ digits)));
   before_is = inr (codes "5", refl, refl);
@@ -162,10 +162,10 @@ unfolding rows_of
 rises_again = record { object = with_counter five; is_table = refl; is_there = (1, omega arith, refl); text = text_with seven; raises = from_five (codes "7") 7 refl says_seven (omega arith); rows = of_number (codes "4") ∷ []; same_rows = same_rows _; changes_are = refl }
 
 -- the only table of such a database
-the_table : (behind : List ℕ) (numbers : List (List ℕ)) (object : Object) (k : ℕ) → k < 2 → slice_index_or (counted behind numbers).objects k object ≡ object → object.kind ≡ Table → with_counter behind ≡ object
-the_table behind numbers object zero within is is_table = absurd (cc)
-the_table behind numbers object (suc zero) within is is_table = is
-the_table behind numbers object (suc (suc k)) within is is_table = absurd (omega arith)
+the_table : (after : List ℕ) (numbers : List (List ℕ)) (object : Object) (k : ℕ) → k < 2 → slice_index_or (counted after numbers).objects k object ≡ object → object.kind ≡ Table → with_counter after ≡ object
+the_table after numbers object zero within is is_table = absurd (cc)
+the_table after numbers object (suc zero) within is is_table = is
+the_table after numbers object (suc (suc k)) within is is_table = absurd (omega arith)
 
 next_of : {one other : TableCounter} → Some one ≡ Some other → one.next ≡ other.next
 next_of {one} {other} e = let same : one ≡ other = cc in ap (λ (found : TableCounter). found.next) same

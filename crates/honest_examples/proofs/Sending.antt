@@ -1,21 +1,21 @@
 -- What becomes of a message that is sent.
 use Rattle.std.proofs.Common.{◌≡◌, ◌<◌, ℕ, true, false, List, [], ◌∷◌, ◌++◌, Some, None, refl, ap, sym, ◌∙◌, subst, arith, codes, length, drop, ◌⊎◌, inl, inr}
 use Rattle.grammar.specs.Language.{Fixed, Then}
-use Rattle.my_packets.specs.Packet.{packets}
+use Rattle.wire_forms.specs.Packet.{packets}
 use Rattle.my_packets.proofs.Fronts.{same_packets}
 use Rattle.my_packets.proofs.Packets.{last_packets, packets_length}
-use Rattle.object_texts.specs.Head.{HasHead}
-use Rattle.object_texts.specs.Token.{tokens}
-use Rattle.sql_literals.specs.declared.cell.Cell.{Cell}
-use Rattle.sql_statements.specs.Insert.{AnyInsert}
-use Rattle.sql_statements.specs.Statement.{CommandHasText, IsReadAs, IsTextOf, command_row, row_of}
-use Rattle.sql_statements.specs.Text.{command_text, query_text}
-use Rattle.sql_statements.specs.declared.command.Command.{Command}
-use Rattle.sql_statements.specs.declared.command.Command.TheVariants.{Commit, Create, CreateProgress, CreateProgressDump, CreateProgressFiles, Insert, InsertProgressDump, InsertProgressFile, Rollback, Start, StartSnapshot, Use}
-use Rattle.sql_statements.specs.declared.query.Query.{Query}
-use Rattle.sql_statements.specs.declared.query.Query.TheVariants.{MasterStatus, CreateDatabase, CreateTable, CreateView, CreateProcedure, CreateFunction, CreateTrigger}
-use Rattle.sql_statements.specs.declared.statement.Statement.{Statement}
-use Rattle.sql_statements.specs.declared.statement.Statement.TheVariants.{Command as SomeCommand, Query as SomeQuery}
+use Rattle.object_forms.specs.Head.{HasHead}
+use Rattle.object_forms.specs.Token.{tokens}
+use Rattle.sql_cells.specs.declared.cell.Cell.{Cell}
+use Rattle.statement_forms.specs.Insert.{AnyInsert}
+use Rattle.statement_forms.specs.Statement.{CommandHasText, IsReadAs, IsTextOf, command_row, row_of}
+use Rattle.statement_forms.specs.Text.{command_text, query_text}
+use Rattle.statement_forms.specs.declared.command.Command.{Command}
+use Rattle.statement_forms.specs.declared.command.Command.TheVariants.{Commit, Create, CreateProgress, CreateProgressDump, CreateProgressFiles, Insert, InsertProgressDump, InsertProgressFile, Rollback, Start, StartSnapshot, Use}
+use Rattle.statement_forms.specs.declared.query.Query.{Query}
+use Rattle.statement_forms.specs.declared.query.Query.TheVariants.{MasterStatus, CreateDatabase, CreateTable, CreateView, CreateProcedure, CreateFunction, CreateTrigger}
+use Rattle.statement_forms.specs.declared.statement.Statement.{Statement}
+use Rattle.statement_forms.specs.declared.statement.Statement.TheVariants.{Command as SomeCommand, Query as SomeQuery}
 use Rattle.honest_server.specs.Effect.{EndsTransaction}
 use Rattle.honest_server.specs.Exchange.{query_payload}
 use Rattle.honest_server.specs.Moves.{plainly}

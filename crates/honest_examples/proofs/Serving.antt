@@ -1,11 +1,11 @@
 -- When a willing server serves a statement on the only link to a quiet site, and when it refuses it.
 use Rattle.std.proofs.Common.{◌≡◌, true, List, [], Some, refl, ap, sym, subst, inl}
-use Rattle.result_rows.specs.declared.refusal.Refusal.{Refusal}
-use Rattle.server_model.specs.declared.data.Transaction.{Transaction}
-use Rattle.sql_literals.specs.declared.cell.Cell.{Cell}
-use Rattle.sql_statements.specs.Form.{form_of}
-use Rattle.sql_statements.specs.declared.statement.Statement.{Statement}
-use Rattle.sql_statements.specs.declared.statement.Statement.TheVariants.{Command as SomeCommand, Query as SomeQuery}
+use Rattle.wire_forms.specs.declared.refusal.Refusal.{Refusal}
+use Rattle.server_data.specs.declared.data.Transaction.{Transaction}
+use Rattle.sql_cells.specs.declared.cell.Cell.{Cell}
+use Rattle.statement_forms.specs.Form.{form_of}
+use Rattle.statement_forms.specs.declared.statement.Statement.{Statement}
+use Rattle.statement_forms.specs.declared.statement.Statement.TheVariants.{Command as SomeCommand, Query as SomeQuery}
 use Rattle.honest_server.specs.Laws.{IsNoErr}
 use Rattle.honest_server.specs.Moves.{SeesOthers, plainly}
 use Rattle.honest_server.specs.Serve.{CameBefore, FitsNowhere, Handles, IsHandled, Reply, done, rows, refused, Serves}

@@ -4,21 +4,21 @@ use Rattle.std.proofs.Common.{◌≡◌, ℕ, true, false, List, [], ◌∷◌, 
 use Rattle.std.proofs.lemmas.Bool.{false≢true, true≢false}
 use Rattle.std.proofs.lemmas.List.Elements.{All-cons, All-nil}
 use Rattle.std.specs.Str.{chars, is_utf8}
-use Rattle.object_texts.specs.Token.{tokens}
-use Rattle.object_texts.specs.declared.head.Kind.{Kind}
-use Rattle.object_texts.specs.declared.head.Kind.TheVariants.{View}
-use Rattle.server_model.specs.Fold.{change_db, db, has_object, may_make}
-use Rattle.server_model.specs.declared.data.Change.{Change}
-use Rattle.server_model.specs.declared.data.Change.TheVariants.{Make}
-use Rattle.server_model.specs.declared.data.Database.{Database}
-use Rattle.server_model.specs.declared.data.Object.{Object}
-use Rattle.server_model.specs.declared.data.Settings.{Settings}
-use Rattle.server_model.specs.declared.data.Transaction.{Transaction}
-use Rattle.sql_literals.specs.declared.cell.Cell.{Cell}
-use Rattle.sql_literals.specs.declared.cell.Cell.TheVariants.{Null, Value}
-use Rattle.sql_statements.specs.declared.command.Command.TheVariants.{CharacterSetClient, CollationConnection, Create, SqlMode, Use}
-use Rattle.sql_statements.specs.declared.query.Query.TheVariants.{CreateProcedure}
-use Rattle.sql_statements.specs.declared.statement.Statement.TheVariants.{Command as SomeCommand, Query as SomeQuery}
+use Rattle.object_forms.specs.Token.{tokens}
+use Rattle.object_forms.specs.declared.kind.Kind.{Kind}
+use Rattle.object_forms.specs.declared.kind.Kind.TheVariants.{View}
+use Rattle.server_data.specs.Fold.{change_db, db, has_object, may_make}
+use Rattle.server_data.specs.declared.data.Change.{Change}
+use Rattle.server_data.specs.declared.data.Change.TheVariants.{Make}
+use Rattle.server_data.specs.declared.data.Database.{Database}
+use Rattle.server_data.specs.declared.data.Object.{Object}
+use Rattle.server_data.specs.declared.data.Settings.{Settings}
+use Rattle.server_data.specs.declared.data.Transaction.{Transaction}
+use Rattle.sql_cells.specs.declared.cell.Cell.{Cell}
+use Rattle.sql_cells.specs.declared.cell.Cell.TheVariants.{Null, Value}
+use Rattle.statement_forms.specs.declared.command.Command.TheVariants.{CharacterSetClient, CollationConnection, Create, SqlMode, Use}
+use Rattle.statement_forms.specs.declared.query.Query.TheVariants.{CreateProcedure}
+use Rattle.statement_forms.specs.declared.statement.Statement.TheVariants.{Command as SomeCommand, Query as SomeQuery}
 use Rattle.honest_server.specs.Answer.{Answers}
 use Rattle.honest_server.specs.Effect.{IsMade, made_settings}
 use Rattle.honest_server.specs.Moves.{MayFollow, plainly}
@@ -31,9 +31,7 @@ use Rattle.honest_examples.proofs.Commanding.{free}
 use Rattle.honest_examples.proofs.Serving.{IsAlone, serves_done, serves_rows}
 use Rattle.honest_examples.proofs.Soundness.{all_of_one, good_schema}
 use Rattle.honest_examples.proofs.Worked.{schema_named, stands_alone}
-
-same_some : {X : Type 0} {x y : X} → Some x ≡ Some y → x ≡ y
-same_some e = cc
+use Rattle.plain_data.proofs.Options.{same_some}
 
 -- the two objects are well-formed
 

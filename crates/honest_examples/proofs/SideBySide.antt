@@ -2,15 +2,15 @@
 use Rattle.std.proofs.Common.{◌≡◌, ℕ, false, List, [], ◌∷◌, ◌++◌, Some, refl, ap, sym, ◌∙◌, subst, arith, codes, filter}
 use Rattle.std.proofs.lemmas.Bool.{false≢true, true≢false}
 use Rattle.std.proofs.lemmas.List.{append_cancel_left}
-use Rattle.server_model.specs.Bag.{IsSameBag, count_of}
-use Rattle.server_model.specs.Fold.{change_db, db, has_object, may_make, rows_of}
-use Rattle.server_model.specs.History.{IsPrefix}
-use Rattle.server_model.specs.declared.data.Database.{Database}
-use Rattle.server_model.specs.declared.data.Transaction.{Transaction}
-use Rattle.sql_literals.specs.declared.cell.Cell.{Cell}
-use Rattle.sql_literals.specs.declared.cell.Cell.TheVariants.{Null, Value}
-use Rattle.sql_statements.specs.declared.query.Query.TheVariants.{RowsByKey}
-use Rattle.sql_statements.specs.declared.statement.Statement.TheVariants.{Query as SomeQuery}
+use Rattle.server_data.specs.Bag.{IsSameBag, count_of}
+use Rattle.server_data.specs.Fold.{change_db, db, has_object, may_make, rows_of}
+use Rattle.server_data.specs.History.{IsPrefix}
+use Rattle.server_data.specs.declared.data.Database.{Database}
+use Rattle.server_data.specs.declared.data.Transaction.{Transaction}
+use Rattle.sql_cells.specs.declared.cell.Cell.{Cell}
+use Rattle.sql_cells.specs.declared.cell.Cell.TheVariants.{Null, Value}
+use Rattle.statement_forms.specs.declared.query.Query.TheVariants.{RowsByKey}
+use Rattle.statement_forms.specs.declared.statement.Statement.TheVariants.{Query as SomeQuery}
 use Rattle.honest_server.specs.Answer.{Answers, everything, is_inside}
 use Rattle.honest_server.specs.Columns.{integer_at}
 use Rattle.honest_server.specs.Moves.{MayFollow, SeesOthers, beside}
@@ -26,9 +26,7 @@ use Rattle.honest_examples.proofs.Inserting.{put_row, spells_null, spells_three}
 use Rattle.honest_examples.proofs.Returning.{a_then_both, b_first}
 use Rattle.honest_examples.proofs.Soundness.{all_of_one, good_marks_with, keys_of, sound_with, sound_with_three}
 use Rattle.honest_examples.proofs.Worked.{stands}
-
-same_some : {X : Type 0} {x y : X} → Some x ≡ Some y → x ≡ y
-same_some e = cc
+use Rattle.plain_data.proofs.Options.{same_some}
 
 abbrev four : List Cell
 four = row (codes "4") Null
@@ -36,7 +34,7 @@ four = row (codes "4") Null
 abbrev five : List Cell
 five = row (codes "5") Null
 
--- the database behind the row with the key 3, and histories that go on from there
+-- the database after the row with the key 3, and histories that go on from there
 
 stands_three : db (history ++ puts_three ∷ []) ≡ Some (with_rows (one ∷ two ∷ three ∷ []))
 unfolding change_db has_object may_make

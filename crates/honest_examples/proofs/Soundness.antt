@@ -6,15 +6,15 @@ use Rattle.std.proofs.lemmas.List.Sums.{AllPass-from_list_all}
 use Rattle.std.specs.List.{list_all}
 use Rattle.std.proofs.lemmas.List.Elements.{All-append, All-cons, All-nil}
 use Rattle.std.proofs.lemmas.List.Kept.{AllPairs-cons}
-use Rattle.object_texts.specs.declared.shape.Column.{Column}
-use Rattle.server_model.proofs.Counts.{and_left, and_right}
-use Rattle.server_model.specs.Fold.{change_db, db, has_object, may_make, rows_of}
-use Rattle.server_model.specs.declared.data.Change.{Change}
-use Rattle.server_model.specs.declared.data.Change.TheVariants.{Make}
-use Rattle.server_model.specs.declared.data.Database.{Database}
-use Rattle.server_model.specs.declared.data.Transaction.{Transaction}
-use Rattle.sql_literals.specs.declared.cell.Cell.{Cell}
-use Rattle.sql_literals.specs.declared.cell.Cell.TheVariants.{Null}
+use Rattle.object_forms.specs.declared.shape.Column.{Column}
+use Rattle.server_data.proofs.Counts.{and_left, and_right}
+use Rattle.server_data.specs.Fold.{change_db, db, has_object, may_make, rows_of}
+use Rattle.server_data.specs.declared.data.Change.{Change}
+use Rattle.server_data.specs.declared.data.Change.TheVariants.{Make}
+use Rattle.server_data.specs.declared.data.Database.{Database}
+use Rattle.server_data.specs.declared.data.Transaction.{Transaction}
+use Rattle.sql_cells.specs.declared.cell.Cell.{Cell}
+use Rattle.sql_cells.specs.declared.cell.Cell.TheVariants.{Null}
 use Rattle.honest_server.specs.Columns.{are_numbers, integer_at, is_in_type, plain_columns}
 use Rattle.honest_server.specs.WellFormed.{HasGoodMark, HasGoodRows, HasKeys, IsCountedWhere, IsSound, IsWellFormed, IsWellFormedObject}
 use Rattle.honest_examples.specs.Databases.{AKeyIsAnInteger, APositionHasAFile, NoTwoRowsHaveOneKey, TheHistoryMakesTheDatabase}
@@ -112,13 +112,13 @@ good_marks (suc (suc (suc k))) one within = absurd (omega arith)
 no_mark : (changes : List Change) → HasGoodMark (unmarked changes)
 no_mark changes = tt
 
--- the worked history, and with such transactions behind it
-pub good_marks_with : (behind : List (List Change)) → All HasGoodMark (history ++ map unmarked behind)
-good_marks_with behind = All-append HasGoodMark history (map unmarked behind) good_marks (without behind)
+-- the worked history, and with such transactions after it
+pub good_marks_with : (after : List (List Change)) → All HasGoodMark (history ++ map unmarked after)
+good_marks_with after = All-append HasGoodMark history (map unmarked after) good_marks (without after)
   where
-    without : (behind : List (List Change)) → All HasGoodMark (map unmarked behind)
+    without : (after : List (List Change)) → All HasGoodMark (map unmarked after)
     without [] = All-nil _
-    without (changes ∷ behind) = All-cons HasGoodMark (unmarked changes) (map unmarked behind) (no_mark changes) (without behind)
+    without (changes ∷ after) = All-cons HasGoodMark (unmarked changes) (map unmarked after) (no_mark changes) (without after)
 
 well_formed : IsWellFormed database
 well_formed = with_good_rows (one ∷ two ∷ []) refl (keys_of (a ∷ []) (one ∷ two ∷ []) (1 ∷ 2 ∷ []) refl refl)
@@ -145,7 +145,7 @@ sound_empty = sound_with no_rows [] [] stands_empty (All-cons HasGoodMark (unmar
 pub ends : TheHistoryMakesTheDatabase
 ends = record { ends = stands }
 
--- behind a wrong row the keys aren't good
+-- after a wrong row the keys aren't good
 pub with_wrong : (rows : List (List Cell)) → IsWellFormed (with_rows rows) → HasKeys the_table.columns 0 rows
 with_wrong rows well = subst (λ (rows : List (List Cell)). HasKeys the_table.columns 0 rows) (rows_are rows) (well.objects 1 the_table (omega arith)).rows.keys
 

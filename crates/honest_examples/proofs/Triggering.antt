@@ -5,29 +5,29 @@ use Rattle.std.specs.Fmt.{digits}
 use Rattle.std.specs.Str.{chars, is_utf8}
 use lib.Utf8.{encode}
 use Rattle.std.proofs.lemmas.List.Elements.{All-cons, All-nil}
-use Rattle.object_texts.specs.Head.{Making, making}
-use Rattle.object_texts.specs.Token.{tokens}
-use Rattle.object_texts.specs.Shape.{TableCounter}
-use Rattle.object_texts.specs.declared.head.Kind.{Kind}
-use Rattle.object_texts.specs.declared.head.Kind.TheVariants.{Schema, Trigger}
-use Rattle.server_model.specs.Bag.{count_of}
-use Rattle.server_model.specs.Fold.{change_db, changes_db, db, has_object, has_place, may_make, more_db, rows_of, with_object}
-use Rattle.server_model.specs.History.{here, none_left, takes, there}
-use Rattle.server_model.specs.declared.data.Change.{Change}
-use Rattle.server_model.specs.declared.data.Change.TheVariants.{Make}
-use Rattle.server_model.specs.declared.data.Database.{Database}
-use Rattle.server_model.specs.declared.data.Object.{Object}
-use Rattle.server_model.specs.declared.data.Transaction.{Transaction}
-use Rattle.sql_literals.specs.declared.cell.Cell.{Cell}
-use Rattle.sql_literals.specs.declared.cell.Cell.TheVariants.{Value}
-use Rattle.sql_statements.specs.declared.command.Command.TheVariants.{Create}
-use Rattle.sql_statements.specs.declared.statement.Statement.TheVariants.{Command as SomeCommand}
+use Rattle.object_forms.specs.Head.{Making, making}
+use Rattle.object_forms.specs.Token.{tokens}
+use Rattle.object_forms.specs.Shape.{TableCounter}
+use Rattle.object_forms.specs.declared.kind.Kind.{Kind}
+use Rattle.object_forms.specs.declared.kind.Kind.TheVariants.{Schema, Trigger}
+use Rattle.server_data.specs.Bag.{count_of}
+use Rattle.server_data.specs.Fold.{change_db, changes_db, db, has_object, has_place, may_make, more_db, rows_of, with_object}
+use Rattle.server_data.specs.History.{here, none_left, takes, there}
+use Rattle.server_data.specs.declared.data.Change.{Change}
+use Rattle.server_data.specs.declared.data.Change.TheVariants.{Make}
+use Rattle.server_data.specs.declared.data.Database.{Database}
+use Rattle.server_data.specs.declared.data.Object.{Object}
+use Rattle.server_data.specs.declared.data.Transaction.{Transaction}
+use Rattle.sql_cells.specs.declared.cell.Cell.{Cell}
+use Rattle.sql_cells.specs.declared.cell.Cell.TheVariants.{Value}
+use Rattle.statement_forms.specs.declared.command.Command.TheVariants.{Create}
+use Rattle.statement_forms.specs.declared.statement.Statement.TheVariants.{Command as SomeCommand}
 use Rattle.std.specs.List.{list_all}
-use Rattle.honest_server.specs.Answer.{holds}
+use Rattle.honest_server.specs.Answer.{has_bytes}
 use Rattle.honest_server.specs.Catalogue.{a_row, no_more}
 use Rattle.honest_server.specs.Columns.{are_numbers, plain_columns, plain_names}
 use Rattle.honest_server.specs.Effect.{IsMade}
-use Rattle.honest_server.specs.Insert.{AddsTo, Inserts, SpellsInsert, are_under, is_plain_insert, puts}
+use Rattle.honest_server.specs.Insert.{AddsTo, Inserts, SpellsInsert, are_under, is_plain_insert, puts_of}
 use Rattle.honest_server.specs.Moves.{plainly}
 use Rattle.honest_server.specs.Serve.{FitsNowhere, Handles, Serves, done, refused, rows}
 use Rattle.honest_server.specs.State.{State, no_settings, with_others, with_own}
@@ -41,9 +41,7 @@ use Rattle.honest_examples.proofs.Inserting.{IsOneRow, IsTheTable, body_of, one_
 use Rattle.honest_examples.proofs.Serving.{refuses, serves_done}
 use Rattle.honest_examples.proofs.Soundness.{all_of_one, good_schema, good_table, keys_of}
 use Rattle.honest_examples.proofs.Worked.{no_counter, schema_named, stands_empty, table_named}
-
-same_some : {X : Type 0} {x y : X} → Some x ≡ Some y → x ≡ y
-same_some e = cc
+use Rattle.plain_data.proofs.Options.{same_some}
 
 -- the trigger is well-formed where its table is
 
@@ -188,7 +186,7 @@ one_for_one : (found_in : Database) (current name : List ℕ) (columns : List (L
 one_for_one found_in current name columns found changes same_database same_schema spells inserts = alone (subst (λ (current : List ℕ). Inserts (with_rows []) current name columns found changes) same_schema (subst (λ (found_in : Database). Inserts found_in current name columns found changes) same_database inserts))
   where
     alone : Inserts (with_rows []) schema name columns found changes → length changes ≡ 1
-    alone inserts = ap (λ (changes : List Change). length changes) is_put ∙ ap (λ (found : List (List Cell)). length (puts the_table found)) row.rows_are
+    alone inserts = ap (λ (changes : List Change). length changes) is_put ∙ ap (λ (found : List (List Cell)). length (puts_of the_table found)) row.rows_are
       where
         is : IsTheTable name inserts.object
         is = only_table name inserts.object inserts.is_there
@@ -197,13 +195,13 @@ one_for_one found_in current name columns found changes same_database same_schem
         named_so = inserts.all_columns ∙ ap (λ (object : Object). plain_names object.columns) is.is
 
         row : IsOneRow found
-        row = one_row spells.spells (ap (λ (body : List ℕ). holds (codes "),\n") body) (sym (body_of (codes "(3,'c')") name columns found spells is.named named_so)))
+        row = one_row spells.spells (ap (λ (body : List ℕ). has_bytes (codes "),\n") body) (sym (body_of (codes "(3,'c')") name columns found spells is.named named_so)))
 
-        adds : AddsTo (is_plain_insert (with_rows []) the_table found) (puts the_table found) changes
-        adds = subst (λ (object : Object). AddsTo (is_plain_insert (with_rows []) object found) (puts object found) changes) is.is inserts.adds
+        adds : AddsTo (is_plain_insert (with_rows []) the_table found) (puts_of the_table found) changes
+        adds = subst (λ (object : Object). AddsTo (is_plain_insert (with_rows []) object found) (puts_of object found) changes) is.is inserts.adds
 
-        is_put : changes ≡ puts the_table found
-        is_put = subst (λ (found_counter : Option TableCounter). AddsTo (are_under the_table.columns found_counter found) (puts the_table found) changes) no_counter adds
+        is_put : changes ≡ puts_of the_table found
+        is_put = subst (λ (found_counter : Option TableCounter). AddsTo (are_under the_table.columns found_counter found) (puts_of the_table found) changes) no_counter adds
 
 pub puts_more : ATriggerMayPutMore
 unfolding change_db has_object may_make

@@ -1,9 +1,9 @@
 -- What is told of a view, and of routines beside it.
 use Rattle.std.proofs.Common.{ℕ, List, [], ◌∷◌, Option, Some, None, refl, ap, sym, ◌∙◌}
-use Rattle.server_model.specs.Bag.{count_of}
-use Rattle.server_model.specs.declared.data.Settings.{Settings}
-use Rattle.sql_literals.specs.declared.cell.Cell.{Cell}
-use Rattle.sql_literals.specs.declared.cell.Cell.TheVariants.{Value}
+use Rattle.server_data.specs.Bag.{count_of}
+use Rattle.server_data.specs.declared.data.Settings.{Settings}
+use Rattle.sql_cells.specs.declared.cell.Cell.{Cell}
+use Rattle.sql_cells.specs.declared.cell.Cell.TheVariants.{Value}
 use Rattle.honest_examples.specs.Routines.{RoutinesAreListed, function, procedure, settings}
 use Rattle.honest_examples.specs.Views.{AViewIsShownWithItsSettings, WhatAViewNeedsIsTold, view}
 use Rattle.honest_examples.specs.Worked.{schema, table}

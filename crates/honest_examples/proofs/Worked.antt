@@ -2,10 +2,10 @@
 use lib.Utf8.{encode}
 use Rattle.std.proofs.Common.{◌≡◌, true, List, [], ◌∷◌, Some, None, refl, ap}
 use Rattle.std.specs.Str.{chars, is_utf8}
-use Rattle.object_texts.specs.Shape.{counter}
-use Rattle.object_texts.specs.Token.{tokens}
-use Rattle.server_model.specs.Fold.{change_db, db, has_object, may_make, rows_of}
-use Rattle.sql_literals.specs.declared.cell.Cell.{Cell}
+use Rattle.object_forms.specs.Shape.{counter}
+use Rattle.object_forms.specs.Token.{tokens}
+use Rattle.server_data.specs.Fold.{change_db, db, has_object, may_make, rows_of}
+use Rattle.sql_cells.specs.declared.cell.Cell.{Cell}
 use Rattle.honest_server.specs.WellFormed.{HasItsHead, IsShaped, is_name}
 use Rattle.honest_examples.specs.Worked.{database, history, no_rows, schema, schema_alone, table, table_text, the_schema, the_table, with_rows}
 

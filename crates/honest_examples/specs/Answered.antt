@@ -1,10 +1,10 @@
 -- What queries are answered over the worked database, and what they aren't.
 use Rattle.std.specs.Prelude.{ℕ, true, false, List, [], ◌∷◌, ◌++◌, codes, pos}
-use Rattle.object_texts.specs.declared.shape.Column.{Column}
-use Rattle.server_model.specs.Fold.{mark}
-use Rattle.sql_literals.specs.declared.cell.Cell.{Cell}
-use Rattle.sql_literals.specs.declared.cell.Cell.TheVariants.{Null, Value}
-use Rattle.sql_statements.specs.declared.query.Query.TheVariants.{MasterStatus, Schemas, Tables, Columns, PrimaryKey, Triggers, CreateTable, Key, KeyAbove, Rows, RowsByKey, RowsAbove, RowsUpTo, RowsBetween}
+use Rattle.object_forms.specs.declared.shape.Column.{Column}
+use Rattle.server_data.specs.Fold.{mark}
+use Rattle.sql_cells.specs.declared.cell.Cell.{Cell}
+use Rattle.sql_cells.specs.declared.cell.Cell.TheVariants.{Null, Value}
+use Rattle.statement_forms.specs.declared.query.Query.TheVariants.{MasterStatus, Schemas, Tables, Columns, PrimaryKey, Triggers, CreateTable, Key, KeyAbove, Rows, RowsByKey, RowsAbove, RowsUpTo, RowsBetween}
 use Rattle.honest_server.specs.Answer.{Answers, IsColumnRow, ShowsMark}
 use Rattle.honest_examples.specs.Worked.{database, history, id, one, schema, table, table_text, two, unmarked}
 
@@ -109,7 +109,7 @@ pub record TheLastPositionIsShown : Type 0 where
   pub refused : ShowsMark (mark history) [] → ⊥
   pub of_database : (rows : List (List Cell)) → Answers database MasterStatus rows → ⊥
 
--- behind a transaction without a position there is none
+-- after a transaction without a position there is none
 pub record NoPositionIsShown : Type 0 where
   pub allowed : ShowsMark (mark (history ++ unmarked [] ∷ [])) []
   pub refused : ShowsMark (mark (history ++ unmarked [] ∷ [])) (status (codes "157")) → ⊥

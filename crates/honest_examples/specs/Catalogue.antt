@@ -1,17 +1,17 @@
 -- Changes that keep the catalogue, among them the rise of a counter, and others that don't.
 use Rattle.std.specs.Prelude.{ℕ, List, [], ◌∷◌, ◌++◌, Some, None, codes, map}
-use Rattle.object_texts.specs.declared.head.Kind.TheVariants.{Table}
-use Rattle.server_model.specs.declared.data.Change.{Change}
-use Rattle.server_model.specs.declared.data.Change.TheVariants.{Drop, Make, Put}
-use Rattle.server_model.specs.declared.data.Database.{Database}
-use Rattle.server_model.specs.declared.data.Object.{Object}
-use Rattle.server_model.specs.declared.data.TableRows.{TableRows}
-use Rattle.server_model.specs.declared.data.Transaction.{Transaction}
-use Rattle.sql_literals.specs.declared.cell.Cell.{Cell}
-use Rattle.sql_literals.specs.declared.cell.Cell.TheVariants.{Value}
-use Rattle.sql_statements.specs.declared.command.Command.TheVariants.{Insert}
-use Rattle.sql_statements.specs.declared.statement.Statement.{Statement}
-use Rattle.sql_statements.specs.declared.statement.Statement.TheVariants.{Command as SomeCommand}
+use Rattle.object_forms.specs.declared.kind.Kind.TheVariants.{Table}
+use Rattle.server_data.specs.declared.data.Change.{Change}
+use Rattle.server_data.specs.declared.data.Change.TheVariants.{Drop, Make, Put}
+use Rattle.server_data.specs.declared.data.Database.{Database}
+use Rattle.server_data.specs.declared.data.Object.{Object}
+use Rattle.server_data.specs.declared.data.TableRows.{TableRows}
+use Rattle.server_data.specs.declared.data.Transaction.{Transaction}
+use Rattle.sql_cells.specs.declared.cell.Cell.{Cell}
+use Rattle.sql_cells.specs.declared.cell.Cell.TheVariants.{Value}
+use Rattle.statement_forms.specs.declared.command.Command.TheVariants.{Insert}
+use Rattle.statement_forms.specs.declared.statement.Statement.{Statement}
+use Rattle.statement_forms.specs.declared.statement.Statement.TheVariants.{Command as SomeCommand}
 use Rattle.honest_server.specs.Catalogue.{IsRise, KeepsCatalogue}
 use Rattle.honest_server.specs.Moves.{plainly}
 use Rattle.honest_server.specs.Serve.{done, Serves}
@@ -24,12 +24,12 @@ use Rattle.honest_examples.specs.Worked.{history, id, put, schema, schema_alone,
 abbrev pub numbered : List ℕ
 numbered = codes "n"
 
--- its text, with what stands behind the engine: nothing, or the counter
+-- its text, with what stands after the engine: nothing, or the counter
 abbrev pub text_with : List ℕ → List ℕ
-text_with behind = codes "CREATE TABLE `n` (`id` int NOT NULL AUTO_INCREMENT, PRIMARY KEY (`id`)) ENGINE=InnoDB" ++ behind
+text_with after = codes "CREATE TABLE `n` (`id` int NOT NULL AUTO_INCREMENT, PRIMARY KEY (`id`)) ENGINE=InnoDB" ++ after
 
 abbrev pub with_counter : List ℕ → Object
-with_counter behind = record { kind = Table; schema = schema; name = numbered; text = text_with behind; settings = None; columns = id ∷ []; key = Some 0; rank = 0; needs = [] }
+with_counter after = record { kind = Table; schema = schema; name = numbered; text = text_with after; settings = None; columns = id ∷ []; key = Some 0; rank = 0; needs = [] }
 
 abbrev pub five : List ℕ
 five = codes " AUTO_INCREMENT=5"
@@ -49,11 +49,11 @@ row_of_number digits = record { table = record { schema = schema; name = numbere
 
 -- the schema and such a table, with the rows of these numbers
 abbrev pub counted : List ℕ → List (List ℕ) → Database
-counted behind numbers = record { objects = the_schema ∷ with_counter behind ∷ []; rows = map row_of_number numbers }
+counted after numbers = record { objects = the_schema ∷ with_counter after ∷ []; rows = map row_of_number numbers }
 
--- the table is dropped, made with what then stands behind the engine, and given these rows
+-- the table is dropped, made with what then stands after the engine, and given these rows
 abbrev pub anew : List ℕ → List (List ℕ) → List Change
-anew behind numbers = Drop Table schema numbered ∷ Make (with_counter behind) ∷ map put_number numbers
+anew after numbers = Drop Table schema numbered ∷ Make (with_counter after) ∷ map put_number numbers
 
 -- a number is under its table's counter
 pub record ANumberIsUnderItsCounter : Type 0 where
@@ -78,7 +78,7 @@ pub record RowsAndCountersKeepTheCatalogue : Type 0 where
   pub made : KeepsCatalogue history (unmarked (Make (with_counter []) ∷ []) ∷ []) → ⊥
   pub dropped : KeepsCatalogue history (unmarked (Drop Table schema table ∷ []) ∷ []) → ⊥
 
--- a link in a session behind that history
+-- a link in a session after that history
 abbrev pub counting_link : State
 counting_link = link counting (Some schema)
 

@@ -1,7 +1,7 @@
 -- Databases that are well-formed, histories that are sound, and others that aren't.
 use Rattle.std.specs.Prelude.{◌≡◌, [], ◌∷◌, ◌++◌, Some, codes}
-use Rattle.server_model.specs.Fold.{db, with_row}
-use Rattle.sql_literals.specs.declared.cell.Cell.TheVariants.{Null}
+use Rattle.server_data.specs.Fold.{db, with_row}
+use Rattle.sql_cells.specs.declared.cell.Cell.TheVariants.{Null}
 use Rattle.honest_server.specs.WellFormed.{IsSound, IsWellFormed}
 use Rattle.honest_examples.specs.Worked.{database, history, marked, one_again, position, put, row, schema, table, unmarked}
 

@@ -1,14 +1,14 @@
 -- What statements do on a link in a session, and where they can't be handled.
 use Rattle.std.specs.Prelude.{ℕ, false, true, List, [], ◌∷◌, ◌++◌, Option, Some, None, codes}
-use Rattle.result_rows.specs.declared.refusal.Refusal.{Refusal}
-use Rattle.server_model.specs.declared.data.Change.TheVariants.{Make}
-use Rattle.server_model.specs.declared.data.Transaction.{Transaction}
-use Rattle.sql_statements.specs.Form.{form_of}
-use Rattle.sql_statements.specs.declared.command.Command.TheVariants.{Commit, Create, Insert, Rollback, StartSnapshot, Use}
-use Rattle.sql_statements.specs.declared.form.Form.TheVariants.{Select}
-use Rattle.sql_statements.specs.declared.query.Query.TheVariants.{Rows}
-use Rattle.sql_statements.specs.declared.statement.Statement.{Statement}
-use Rattle.sql_statements.specs.declared.statement.Statement.TheVariants.{Command as SomeCommand, Query as SomeQuery}
+use Rattle.wire_forms.specs.declared.refusal.Refusal.{Refusal}
+use Rattle.server_data.specs.declared.data.Change.TheVariants.{Make}
+use Rattle.server_data.specs.declared.data.Transaction.{Transaction}
+use Rattle.statement_forms.specs.Form.{form_of}
+use Rattle.statement_forms.specs.declared.command.Command.TheVariants.{Commit, Create, Insert, Rollback, StartSnapshot, Use}
+use Rattle.statement_forms.specs.declared.form.Form.TheVariants.{Select}
+use Rattle.statement_forms.specs.declared.query.Query.TheVariants.{Rows}
+use Rattle.statement_forms.specs.declared.statement.Statement.{Statement}
+use Rattle.statement_forms.specs.declared.statement.Statement.TheVariants.{Command as SomeCommand, Query as SomeQuery}
 use Rattle.honest_server.specs.Laws.{IsNoErr}
 use Rattle.honest_server.specs.Moves.{plainly}
 use Rattle.honest_server.specs.Serve.{Reply, done, rows, refused, Serves}
@@ -34,7 +34,7 @@ link seen current = record {
   grants = [];
 }
 
--- the same behind the worked history
+-- the same after the worked history
 abbrev pub worked : State
 worked = link history (Some schema)
 
@@ -118,7 +118,7 @@ pub record ARollbackDropsTheTransaction : Type 0 where
 abbrev pub unwilling : State
 unwilling = record worked { terms = record worked.terms { willing = false } }
 
--- an ERR may come behind the first rows of an answer, and behind no others
+-- an ERR may come after the first rows of an answer, and after no others
 pub record AnErrBreaksOffAnAnswer : Type 0 where
   pub allowed : (refusal : Refusal) → Serves plainly unwilling (SomeQuery (Rows columns schema table)) (refused (two ∷ []) refusal) (with_error unwilling (Some Select) refusal)
   pub refused : (refusal : Refusal) (new : State) → Serves plainly unwilling (SomeQuery (Rows columns schema table)) (refused (three ∷ []) refusal) new → ⊥

@@ -1,22 +1,22 @@
 -- The bytes of replies, and what messages are answered by.
 use Rattle.std.specs.Prelude.{ℕ, ◌≡◌, Bool, true, List, [], ◌∷◌, ◌++◌, Some, None, codes}
-use Rattle.my_packets.specs.Packet.{packets}
-use Rattle.result_rows.specs.KeptText.{kept_text}
-use Rattle.result_rows.specs.Reply.{reply_of}
-use Rattle.result_rows.specs.ResultSet.{IsResultSet}
-use Rattle.result_rows.specs.Row.{Cell as SentCell}
-use Rattle.result_rows.specs.declared.refusal.Refusal.{Refusal}
-use Rattle.result_rows.specs.declared.reader.Reply.TheVariants.{Done}
-use Rattle.sql_literals.specs.declared.cell.Cell.{Cell}
-use Rattle.sql_literals.specs.declared.cell.Cell.TheVariants.{Value}
-use Rattle.sql_statements.specs.declared.command.Command.TheVariants.{Commit}
-use Rattle.sql_statements.specs.declared.query.Query.TheVariants.{Schemas}
-use Rattle.sql_statements.specs.declared.statement.Statement.TheVariants.{Command as SomeCommand, Query as SomeQuery}
+use Rattle.wire_forms.specs.Packet.{packets}
+use Rattle.wire_forms.specs.KeptText.{kept_text}
+use Rattle.wire_forms.specs.Reply.{reply_of}
+use Rattle.wire_forms.specs.ResultSet.{IsResultSet}
+use Rattle.wire_forms.specs.Row.{Cell as SentCell}
+use Rattle.wire_forms.specs.declared.refusal.Refusal.{Refusal}
+use Rattle.wire_forms.specs.declared.reply.Reply.TheVariants.{Done}
+use Rattle.sql_cells.specs.declared.cell.Cell.{Cell}
+use Rattle.sql_cells.specs.declared.cell.Cell.TheVariants.{Value}
+use Rattle.statement_forms.specs.declared.command.Command.TheVariants.{Commit}
+use Rattle.statement_forms.specs.declared.query.Query.TheVariants.{Schemas}
+use Rattle.statement_forms.specs.declared.statement.Statement.TheVariants.{Command as SomeCommand, Query as SomeQuery}
 use Rattle.honest_server.specs.Exchange.{Exchanges}
 use Rattle.honest_server.specs.Moves.{plainly}
 use Rattle.honest_server.specs.Serve.{Reply, done, rows, refused}
 use Rattle.honest_server.specs.Spelled.{Spells}
-use Rattle.honest_server.specs.State.{State, closed, greeted, with_error}
+use Rattle.honest_server.specs.State.{State, closed_state, greeted, with_error}
 use Rattle.honest_examples.specs.Effects.{worked}
 use Rattle.honest_examples.specs.Worked.{schema}
 
@@ -52,7 +52,7 @@ pub record ACommandIsAnsweredByOneMessage : Type 0 where
   pub err_is_no_ok : Spells true (SomeCommand Commit) done (err ∷ []) → ⊥
   pub refused : (willing : Bool) (reply : Reply) (columns : ℕ) (found : List (List SentCell)) (messages : List (List ℕ)) → IsResultSet columns found messages → Spells willing (SomeCommand Commit) reply messages → ⊥
 
--- a query is answered by the messages of its rows, behind which an ERR may stand in place of the end
+-- a query is answered by the messages of its rows, after which an ERR may stand in place of the end
 pub record AQueryIsAnsweredByItsRows : Type 0 where
   pub allowed : Spells true (SomeQuery Schemas) (rows (only schema)) (set_before eof)
   pub broken_off : Spells true (SomeQuery Schemas) (refused (only schema) refusal) (set_before err)
@@ -77,7 +77,7 @@ pub record ACommitIsAnsweredByAnOk : Type 0 where
 
 -- COM_QUIT ends the session without an answer
 pub record AQuitIsntAnswered : Type 0 where
-  pub allowed : Exchanges plainly worked (1 ∷ 0 ∷ 0 ∷ 0 ∷ 1 ∷ []) [] (closed worked)
+  pub allowed : Exchanges plainly worked (1 ∷ 0 ∷ 0 ∷ 0 ∷ 1 ∷ []) [] (closed_state worked)
   pub refused : (new : State) → Exchanges plainly worked (1 ∷ 0 ∷ 0 ∷ 0 ∷ 1 ∷ []) (7 ∷ 0 ∷ 0 ∷ 1 ∷ ok) new → ⊥
 
 -- the link is greeted, and no session is open yet

@@ -18,14 +18,14 @@ broken state = record { waiting = []; state = state; failed = true }
 abbrev pub with_waiting : List ℕ → ServedLink
 with_waiting bytes = record (alive worked) { waiting = bytes }
 
--- the packet of an OK behind a command
+-- the packet of an OK after a command
 abbrev pub ok_packet : List ℕ
 ok_packet = 7 ∷ 0 ∷ 0 ∷ 1 ∷ ok
 
--- once a message is sent its answer waits behind what waited before
+-- once a message is sent its answer waits after what waited before
 pub record TheAnswerWaits : Type 0 where
   pub allowed : IsAnswered plainly (alive worked) commit (with_waiting ok_packet)
-  pub behind : IsAnswered plainly (with_waiting (1 ∷ [])) commit (with_waiting (1 ∷ ok_packet))
+  pub after : IsAnswered plainly (with_waiting (1 ∷ [])) commit (with_waiting (1 ∷ ok_packet))
   pub refused : IsAnswered plainly (alive worked) commit (alive worked) → ⊥
 
 -- where a link fails at a COMMIT, the open transaction was committed, or is still open

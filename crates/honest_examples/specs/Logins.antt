@@ -1,7 +1,7 @@
 -- Logins in which another plugin is asked for, and one that is turned away.
 use Rattle.std.specs.Prelude.{ℕ, ◌≡◌, false, List, [], ◌∷◌, ◌++◌, Some, codes}
-use Rattle.my_login.specs.Texts.{native_password}
-use Rattle.sql_statements.specs.declared.form.Form.TheVariants.{Connect}
+use Rattle.wire_forms.specs.Texts.{native_password}
+use Rattle.statement_forms.specs.declared.form.Form.TheVariants.{Connect}
 use Rattle.honest_server.specs.Exchange.{Exchanges}
 use Rattle.honest_server.specs.Moves.{plainly}
 use Rattle.honest_server.specs.State.{Phase, State, greeted, in_session, over, switching, with_error}

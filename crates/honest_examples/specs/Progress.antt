@@ -1,15 +1,15 @@
 -- The progress of a load, which it keeps in a schema of its own.
 use Rattle.std.specs.Prelude.{ℕ, false, List, [], ◌∷◌, None, codes}
-use Rattle.object_texts.specs.declared.head.Kind.TheVariants.{Schema, Table}
-use Rattle.server_model.specs.declared.data.Change.TheVariants.{Make, Put}
-use Rattle.server_model.specs.declared.data.Database.{Database}
-use Rattle.server_model.specs.declared.data.Object.{Object}
-use Rattle.server_model.specs.declared.data.Transaction.{Transaction}
-use Rattle.sql_literals.specs.declared.cell.Cell.TheVariants.{Value}
-use Rattle.sql_statements.specs.Text.{command_text}
-use Rattle.sql_statements.specs.declared.command.Command.TheVariants.{CreateProgress, CreateProgressFiles, InsertProgressFile}
-use Rattle.sql_statements.specs.declared.query.Query.TheVariants.{ProgressFiles}
-use Rattle.sql_statements.specs.declared.statement.Statement.TheVariants.{Command as SomeCommand}
+use Rattle.object_forms.specs.declared.kind.Kind.TheVariants.{Schema, Table}
+use Rattle.server_data.specs.declared.data.Change.TheVariants.{Make, Put}
+use Rattle.server_data.specs.declared.data.Database.{Database}
+use Rattle.server_data.specs.declared.data.Object.{Object}
+use Rattle.server_data.specs.declared.data.Transaction.{Transaction}
+use Rattle.sql_cells.specs.declared.cell.Cell.TheVariants.{Value}
+use Rattle.statement_forms.specs.Text.{command_text}
+use Rattle.statement_forms.specs.declared.command.Command.TheVariants.{CreateProgress, CreateProgressFiles, InsertProgressFile}
+use Rattle.statement_forms.specs.declared.query.Query.TheVariants.{ProgressFiles}
+use Rattle.statement_forms.specs.declared.statement.Statement.TheVariants.{Command as SomeCommand}
 use Rattle.honest_server.specs.Answer.{Answers, progress_schema}
 use Rattle.honest_server.specs.Serve.{done}
 use Rattle.honest_server.specs.State.{with_own}

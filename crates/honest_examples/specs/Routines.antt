@@ -1,16 +1,16 @@
 -- A procedure and a view, and the settings that they are made under.
 use Rattle.std.specs.Prelude.{ℕ, false, List, [], ◌∷◌, ◌++◌, Some, None, codes}
-use Rattle.object_texts.specs.declared.head.Kind.TheVariants.{Function, Procedure, View}
-use Rattle.server_model.specs.declared.data.Change.TheVariants.{Make}
-use Rattle.server_model.specs.declared.data.Database.{Database}
-use Rattle.server_model.specs.declared.data.Object.{Object}
-use Rattle.server_model.specs.declared.data.Settings.{Settings}
-use Rattle.server_model.specs.declared.data.Transaction.{Transaction}
-use Rattle.sql_literals.specs.declared.cell.Cell.{Cell}
-use Rattle.sql_literals.specs.declared.cell.Cell.TheVariants.{Null, Value}
-use Rattle.sql_statements.specs.declared.command.Command.TheVariants.{CharacterSetClient, CollationConnection, Create, SqlMode, Use}
-use Rattle.sql_statements.specs.declared.query.Query.TheVariants.{CreateProcedure, Routines}
-use Rattle.sql_statements.specs.declared.statement.Statement.TheVariants.{Command as SomeCommand, Query as SomeQuery}
+use Rattle.object_forms.specs.declared.kind.Kind.TheVariants.{Function, Procedure, View}
+use Rattle.server_data.specs.declared.data.Change.TheVariants.{Make}
+use Rattle.server_data.specs.declared.data.Database.{Database}
+use Rattle.server_data.specs.declared.data.Object.{Object}
+use Rattle.server_data.specs.declared.data.Settings.{Settings}
+use Rattle.server_data.specs.declared.data.Transaction.{Transaction}
+use Rattle.sql_cells.specs.declared.cell.Cell.{Cell}
+use Rattle.sql_cells.specs.declared.cell.Cell.TheVariants.{Null, Value}
+use Rattle.statement_forms.specs.declared.command.Command.TheVariants.{CharacterSetClient, CollationConnection, Create, SqlMode, Use}
+use Rattle.statement_forms.specs.declared.query.Query.TheVariants.{CreateProcedure, Routines}
+use Rattle.statement_forms.specs.declared.statement.Statement.TheVariants.{Command as SomeCommand, Query as SomeQuery}
 use Rattle.honest_server.specs.Answer.{Answers}
 use Rattle.honest_server.specs.Moves.{plainly}
 use Rattle.honest_server.specs.Serve.{Serves, done, rows}
@@ -34,7 +34,7 @@ the_procedure = record { kind = Procedure; schema = schema; name = codes "p"; te
 abbrev pub the_view : Object
 the_view = record { kind = View; schema = schema; name = codes "v"; text = view_text; settings = Some (record settings { sql_mode = [] }); columns = []; key = None; rank = 0; needs = [] }
 
--- a link with these settings, behind the schema alone
+-- a link with these settings, after the schema alone
 abbrev pub with_settings : Settings → State
 with_settings made = record (link schema_alone (Some schema)) { settings = made }
 
@@ -52,7 +52,7 @@ pub record SettingsAreOfTheNextObject : Type 0 where
   pub cleared : IsServed (with_settings settings) (SomeCommand (Use schema)) done (with_settings no_settings)
   pub refused : Serves plainly (with_settings settings) (SomeCommand (Create procedure_text)) done (making (record the_procedure { settings = Some no_settings })) → ⊥
 
--- a link behind the procedure, to a server that is willing or isn't
+-- a link after the procedure, to a server that is willing or isn't
 abbrev pub with_procedure : List Transaction
 with_procedure = schema_alone ++ unmarked (Make the_procedure ∷ []) ∷ []
 

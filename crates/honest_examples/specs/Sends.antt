@@ -1,7 +1,7 @@
 -- Which bytes are a whole message, and what becomes of a message that is sent: answered, handled by a link that failed, or not handled.
 use Rattle.std.specs.Prelude.{ℕ, ◌≡◌, List, [], ◌∷◌, Some, Ok, Err, codes}
-use Rattle.my_packets.specs.Packet.{packets}
-use Rattle.sql_literals.specs.declared.cell.Cell.TheVariants.{Null}
+use Rattle.wire_forms.specs.Packet.{packets}
+use Rattle.sql_cells.specs.declared.cell.Cell.TheVariants.{Null}
 use Rattle.honest_server.specs.Exchange.{CommitsAlone, IsWholeMessage, query_payload}
 use Rattle.honest_server.specs.Link.{IsNoCreate, Sends, SendsBeside, ServedLink}
 use Rattle.honest_server.specs.State.{State, greeted, in_session, with_own}
@@ -56,7 +56,7 @@ pub record AMessageIsWhole : Type 0 where
 abbrev pub start_snapshot : List ℕ
 start_snapshot = 43 ∷ 0 ∷ 0 ∷ 0 ∷ 3 ∷ codes "START TRANSACTION WITH CONSISTENT SNAPSHOT"
 
--- Of two links side by side, A holds the read lock behind its row, which B hasn't seen. B's snapshot beside A shows what A has seen.
+-- Of two links side by side, A holds the read lock after its row, which B hasn't seen. B's snapshot beside A shows what A has seen.
 pub record ASnapshotShowsWhatTheHolderHasSeen : Type 0 where
   pub allowed : SendsBeside {T = ℕ} {E = ℕ} a_holds (alive one_of_two) start_snapshot (Ok 0) (record (alive (record b_sees { view = Some a_holds.seen })) { waiting = ok_packet })
   pub nothing_else : (new : ServedLink) → SendsBeside {T = ℕ} {E = ℕ} a_holds (alive one_of_two) start_snapshot (Ok 0) new → new.state.view ≡ Some a_holds.seen

@@ -1,15 +1,15 @@
 -- What a site tells once links come back, and two links that are served there side by side.
 use Rattle.std.specs.Prelude.{◌≡◌, Bool, false, true, List, [], ◌∷◌, ◌++◌, codes, ℕ, replicate}
-use Rattle.server_model.specs.History.{Interleaves, IsPrefix}
-use Rattle.server_model.specs.declared.data.Transaction.{Transaction}
-use Rattle.sql_literals.specs.declared.cell.Cell.TheVariants.{Null}
-use Rattle.sql_statements.specs.declared.command.Command.TheVariants.{FlushTables, UnlockTables}
-use Rattle.sql_statements.specs.declared.query.Query.TheVariants.{RowsByKey}
-use Rattle.sql_statements.specs.declared.statement.Statement.TheVariants.{Command as SomeCommand, Query as SomeQuery}
+use Rattle.server_data.specs.History.{Interleaves, IsPrefix}
+use Rattle.server_data.specs.declared.data.Transaction.{Transaction}
+use Rattle.sql_cells.specs.declared.cell.Cell.TheVariants.{Null}
+use Rattle.statement_forms.specs.declared.command.Command.TheVariants.{FlushTables, UnlockTables}
+use Rattle.statement_forms.specs.declared.query.Query.TheVariants.{RowsByKey}
+use Rattle.statement_forms.specs.declared.statement.Statement.TheVariants.{Command as SomeCommand, Query as SomeQuery}
 use Rattle.honest_server.specs.Link.{ServedLink}
 use Rattle.honest_server.specs.Moves.{beside, plainly}
 use Rattle.honest_server.specs.Serve.{Serves, done, rows}
-use Rattle.honest_server.specs.Site.{Connects, HasSeen, IsNewLink, IsSettled, ServedSite, StaysHonest, TakesBack, fresh, terms_of}
+use Rattle.honest_server.specs.Site.{Connects, HasSeen, IsNewLink, IsSettled, ServedSite, StaysHonest, TakesBack, fresh_state, terms_of}
 use Rattle.honest_server.specs.State.{State, with_others, with_own}
 use Rattle.honest_examples.specs.Answered.{columns, key}
 use Rattle.honest_examples.specs.Effects.{frozen, insert, with_three, worked}
@@ -39,9 +39,9 @@ greeted_link state = record { waiting = 74 ∷ 0 ∷ 0 ∷ 0 ∷ greeting; state
 
 -- a new link is greeted, and holds no lock
 pub record ANewLinkIsGreeted : Type 0 where
-  pub allowed : IsNewLink (site true) true (greeted_link (fresh (terms_of (site true) true) history))
-  pub locked : IsNewLink (site true) true (greeted_link (record (fresh (terms_of (site true) true) history) { frozen = true })) → ⊥
-  pub silent : IsNewLink (site true) true (record (greeted_link (fresh (terms_of (site true) true) history)) { waiting = [] }) → ⊥
+  pub allowed : IsNewLink (site true) true (greeted_link (fresh_state (terms_of (site true) true) history))
+  pub locked : IsNewLink (site true) true (greeted_link (record (fresh_state (terms_of (site true) true) history) { frozen = true })) → ⊥
+  pub silent : IsNewLink (site true) true (record (greeted_link (fresh_state (terms_of (site true) true) history)) { waiting = [] }) → ⊥
 
 -- connecting to a quiet site leaves its history, and where others write it may have grown
 pub record ConnectingLeavesTheHistory : Type 0 where
@@ -55,9 +55,9 @@ pub record TheHistoryIsToldOnceAllAreBack : Type 0 where
   pub nothing_else : (new : ServedSite) → TakesBack 0 (site true) (with_three worked) new → new.history ≡ history ++ puts_three ∷ []
   pub waits : (new : ServedSite) → TakesBack 1 (site true) (with_three worked) new → new.history ≡ history
 
--- a grant of the read lock, behind which nothing was put, the row (3,'c') was, or another
+-- a grant of the read lock, after which nothing was put, the row (3,'c') was, or another
 abbrev pub granted : List Transaction → State
-granted behind = record worked { grants = (history ++ behind) ∷ [] }
+granted after = record worked { grants = (history ++ after) ∷ [] }
 
 -- a site stays honest where its grants are prefixes of one list
 pub record GrantsArePrefixesOfOneList : Type 0 where
@@ -80,7 +80,7 @@ puts_five = unmarked (put (row (codes "5") Null) ∷ [])
 abbrev pub of_both : List (List Transaction)
 of_both = (puts_three ∷ puts_four ∷ []) ∷ (puts_five ∷ []) ∷ []
 
--- A was granted the read lock behind its first row: there is a history of both that begins so, and one that doesn't
+-- A was granted the read lock after its first row: there is a history of both that begins so, and one that doesn't
 pub record AGrantComesFirst : Type 0 where
   pub allowed : Interleaves of_both (puts_three ∷ puts_five ∷ puts_four ∷ [])
   pub begins_so : IsPrefix (history ++ puts_three ∷ []) (history ++ (puts_three ∷ puts_five ∷ puts_four ∷ []))
@@ -112,7 +112,7 @@ b_last = with_own b_sees puts_five
 
 -- the history of both
 abbrev pub settled : List Transaction → ServedSite
-settled behind = record (site true) { history = history ++ behind; grants = (history ++ puts_three ∷ []) ∷ [] }
+settled after = record (site true) { history = history ++ after; grants = (history ++ puts_three ∷ []) ∷ [] }
 
 -- what two links are told side by side, and what the site then tells of them
 pub record TwoLinksSideBySide : Type 0 where

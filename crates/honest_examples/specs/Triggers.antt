@@ -1,14 +1,14 @@
 -- A trigger on the worked table.
 use Rattle.std.specs.Prelude.{ℕ, List, [], ◌∷◌, ◌++◌, Some, None, codes}
-use Rattle.object_texts.specs.declared.head.Kind.TheVariants.{Trigger}
-use Rattle.server_model.specs.declared.data.Change.TheVariants.{Make}
-use Rattle.server_model.specs.declared.data.Database.{Database}
-use Rattle.server_model.specs.declared.data.Object.{Object}
-use Rattle.server_model.specs.declared.data.Transaction.{Transaction}
-use Rattle.sql_literals.specs.declared.cell.Cell.TheVariants.{Value}
-use Rattle.sql_statements.specs.declared.command.Command.TheVariants.{Create}
-use Rattle.sql_statements.specs.declared.query.Query.TheVariants.{Triggers}
-use Rattle.sql_statements.specs.declared.statement.Statement.TheVariants.{Command as SomeCommand}
+use Rattle.object_forms.specs.declared.kind.Kind.TheVariants.{Trigger}
+use Rattle.server_data.specs.declared.data.Change.TheVariants.{Make}
+use Rattle.server_data.specs.declared.data.Database.{Database}
+use Rattle.server_data.specs.declared.data.Object.{Object}
+use Rattle.server_data.specs.declared.data.Transaction.{Transaction}
+use Rattle.sql_cells.specs.declared.cell.Cell.TheVariants.{Value}
+use Rattle.statement_forms.specs.declared.command.Command.TheVariants.{Create}
+use Rattle.statement_forms.specs.declared.query.Query.TheVariants.{Triggers}
+use Rattle.statement_forms.specs.declared.statement.Statement.TheVariants.{Command as SomeCommand}
 use Rattle.honest_server.specs.Answer.{Answers}
 use Rattle.honest_server.specs.Moves.{plainly}
 use Rattle.honest_server.specs.Serve.{Serves, done}

@@ -1,10 +1,10 @@
 -- A view, and what is told of it.
 use Rattle.std.specs.Prelude.{ℕ, List, [], ◌∷◌, codes}
-use Rattle.server_model.specs.declared.data.Database.{Database}
-use Rattle.server_model.specs.declared.data.Object.{Object}
-use Rattle.sql_literals.specs.declared.cell.Cell.{Cell}
-use Rattle.sql_literals.specs.declared.cell.Cell.TheVariants.{Null, Value}
-use Rattle.sql_statements.specs.declared.query.Query.TheVariants.{CreateView, ViewNeeds}
+use Rattle.server_data.specs.declared.data.Database.{Database}
+use Rattle.server_data.specs.declared.data.Object.{Object}
+use Rattle.sql_cells.specs.declared.cell.Cell.{Cell}
+use Rattle.sql_cells.specs.declared.cell.Cell.TheVariants.{Null, Value}
+use Rattle.statement_forms.specs.declared.query.Query.TheVariants.{CreateView, ViewNeeds}
 use Rattle.honest_server.specs.Answer.{Answers}
 use Rattle.honest_examples.specs.Answered.{no_table}
 use Rattle.honest_examples.specs.Routines.{the_view}

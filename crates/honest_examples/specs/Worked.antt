@@ -1,16 +1,16 @@
 -- The schema, the table, its rows and the history that the examples speak of.
 use Rattle.std.specs.Prelude.{ℕ, false, List, [], ◌∷◌, ◌++◌, Some, None, codes, map}
-use Rattle.object_texts.specs.declared.head.Kind.TheVariants.{Schema, Table}
-use Rattle.object_texts.specs.declared.shape.Column.{Column}
-use Rattle.server_model.specs.declared.data.Change.{Change}
-use Rattle.server_model.specs.declared.data.Change.TheVariants.{Make, Put}
-use Rattle.server_model.specs.declared.data.Database.{Database}
-use Rattle.server_model.specs.declared.data.Object.{Object}
-use Rattle.server_model.specs.declared.data.Position.{Position}
-use Rattle.server_model.specs.declared.data.TableRows.{TableRows}
-use Rattle.server_model.specs.declared.data.Transaction.{Transaction}
-use Rattle.sql_literals.specs.declared.cell.Cell.{Cell}
-use Rattle.sql_literals.specs.declared.cell.Cell.TheVariants.{Null, Value}
+use Rattle.object_forms.specs.declared.kind.Kind.TheVariants.{Schema, Table}
+use Rattle.object_forms.specs.declared.shape.Column.{Column}
+use Rattle.server_data.specs.declared.data.Change.{Change}
+use Rattle.server_data.specs.declared.data.Change.TheVariants.{Make, Put}
+use Rattle.server_data.specs.declared.data.Database.{Database}
+use Rattle.server_data.specs.declared.data.Object.{Object}
+use Rattle.server_data.specs.declared.data.Position.{Position}
+use Rattle.server_data.specs.declared.data.TableRows.{TableRows}
+use Rattle.server_data.specs.declared.data.Transaction.{Transaction}
+use Rattle.sql_cells.specs.declared.cell.Cell.{Cell}
+use Rattle.sql_cells.specs.declared.cell.Cell.TheVariants.{Null, Value}
 
 -- the names of the schema and of its table
 abbrev pub schema : List ℕ
@@ -58,11 +58,11 @@ three = row (codes "3") (Value (codes "c"))
 abbrev pub one_again : List Cell
 one_again = row (codes "1") (Value (codes "b"))
 
--- a transaction behind which no position is known
+-- a transaction after which no position is known
 abbrev pub unmarked : List Change → Transaction
 unmarked changes = record { changes = changes; mark = None }
 
--- and one behind which this one is
+-- and one after which this one is
 abbrev pub marked : Position → List Change → Transaction
 marked position changes = record { changes = changes; mark = Some position }
 
@@ -80,7 +80,7 @@ schema_alone = unmarked (Make the_schema ∷ []) ∷ []
 abbrev pub no_rows : List Transaction
 no_rows = schema_alone ++ unmarked (Make the_table ∷ []) ∷ []
 
--- Then the first two rows are put into it, and the position behind them is known.
+-- Then the first two rows are put into it, and the position after them is known.
 abbrev pub history : List Transaction
 history = no_rows ++ marked position (put one ∷ put two ∷ []) ∷ []
 
@@ -91,6 +91,6 @@ of_table cells = record { table = record { schema = schema; name = table }; rows
 abbrev pub with_rows : List (List Cell) → Database
 with_rows rows = record { objects = the_schema ∷ the_table ∷ []; rows = map of_table rows }
 
--- the database behind the history
+-- the database after the history
 abbrev pub database : Database
 database = with_rows (one ∷ two ∷ [])

@@ -21,7 +21,7 @@ pub fn columns_are_asked_for_in_order()
     ensures { ColumnsAreAskedForInOrder }
 {}
 
-/// The key behind one other is the second, and behind two there is none.
+/// The key after one other is the second, and after two there is none.
 pub fn keys_are_skipped()
     ensures { KeysAreSkipped }
 {}

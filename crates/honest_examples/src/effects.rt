@@ -28,7 +28,7 @@ pub fn a_schema_is_used_where_it_is_there()
     ensures { ASchemaIsUsedWhereItIsThere }
 {}
 
-/// A SELECT is answered by what the snapshot shows, and not by what was committed behind it.
+/// A SELECT is answered by what the snapshot shows, and not by what was committed after it.
 pub fn a_select_shows_the_snapshot()
     ensures { ASelectShowsTheSnapshot }
 {}
@@ -44,7 +44,7 @@ pub fn a_rollback_drops_the_transaction()
     ensures { ARollbackDropsTheTransaction }
 {}
 
-/// A server that isn't willing may answer a query by ERR behind the first rows of an answer, and behind no
+/// A server that isn't willing may answer a query by ERR after the first rows of an answer, and after no
 /// others.
 pub fn an_err_breaks_off_an_answer()
     ensures { AnErrBreaksOffAnAnswer }

@@ -1,7 +1,7 @@
 // What sending and receiving do to a link. Nothing here runs: the contracts are the examples.
 ghost use Rattle.honest_examples.specs.Links.{AFailureLosesNothingByHalves, ALinkHasSeenItsOwn, BytesAreReceived, TheAnswerWaits};
 
-/// Once a message is sent, its answer waits behind what waited before.
+/// Once a message is sent, its answer waits after what waited before.
 pub fn the_answer_waits()
     ensures { TheAnswerWaits }
 {}

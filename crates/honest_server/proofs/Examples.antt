@@ -2,11 +2,11 @@
 use Rattle.std.proofs.Common.{◌≡◌, Bool, true, false, List, [], ◌∷◌, Some, None, refl, ap}
 use Rattle.std.proofs.lemmas.Bool.{false≢true}
 use Rattle.std.specs.Prelude.{decimal}
-use Rattle.server_model.specs.declared.data.Position.{Position}
-use Rattle.server_model.specs.declared.data.Transaction.{Transaction}
-use Rattle.sql_literals.specs.declared.cell.Cell.{Cell}
-use Rattle.sql_literals.specs.declared.cell.Cell.TheVariants.{Null, Value}
-use Rattle.honest_server.specs.Laws.{APlainSnapshotMayShowMore, ThePositionMayMoveBehindTheLock}
+use Rattle.server_data.specs.declared.data.Position.{Position}
+use Rattle.server_data.specs.declared.data.Transaction.{Transaction}
+use Rattle.sql_cells.specs.declared.cell.Cell.{Cell}
+use Rattle.sql_cells.specs.declared.cell.Cell.TheVariants.{Null, Value}
+use Rattle.honest_server.specs.Laws.{APlainSnapshotMayShowMore, ThePositionMayMoveAfterTheLock}
 use Rattle.honest_server.specs.State.{State, in_session, no_settings, with_others}
 
 -- a link that has seen nothing and holds the read lock or doesn't
@@ -65,7 +65,7 @@ snapshot = (
     some_same : {xs ys : List Transaction} → Some xs ≡ Some ys → xs ≡ ys
     some_same e = cc
 
-pub position : ThePositionMayMoveBehindTheLock
+pub position : ThePositionMayMoveAfterTheLock
 position = (
   link true,
   link false,

@@ -1,35 +1,36 @@
 -- What a link sees while it holds the backup lock.
 use Rattle.std.proofs.Common.{◌≡◌, ℕ, true, List, [], ◌∷◌, ◌++◌, Option, Some, None, refl, ap, sym, ◌∙◌, append_assoc, subst}
 use Rattle.std.specs.Prelude.{option_and_then}
-use Rattle.server_model.specs.Fold.{change_db, changes_db, db, more_db}
-use Rattle.server_model.specs.declared.data.Change.{Change}
-use Rattle.server_model.specs.declared.data.Database.{Database}
-use Rattle.server_model.specs.declared.data.Transaction.{Transaction}
-use Rattle.sql_statements.specs.declared.command.Command.TheVariants.{SetUp, NamesUtf8mb4, NamesBinary, ForeignKeyChecksOff, TimeZoneUtc, BinaryLogOff, SqlMode, CharacterSetClient, CollationConnection, RepeatableRead, LockInstance, FlushTables, UnlockTables, UnlockInstance, StartSnapshot, Start, Commit, Rollback, Use, Create, CreateProgress, CreateProgressFiles, CreateProgressDump, Insert, InsertProgressFile, InsertProgressDump}
-use Rattle.sql_statements.specs.declared.command.Command.{Command}
-use Rattle.sql_statements.specs.declared.statement.Statement.TheVariants.{Command as SomeCommand, Query as SomeQuery}
+use Rattle.server_data.specs.Fold.{change_db, changes_db, db, more_db}
+use Rattle.server_data.specs.declared.data.Change.{Change}
+use Rattle.server_data.specs.declared.data.Database.{Database}
+use Rattle.server_data.specs.declared.data.Transaction.{Transaction}
+use Rattle.statement_forms.specs.declared.command.Command.TheVariants.{SetUp, NamesUtf8mb4, NamesBinary, ForeignKeyChecksOff, TimeZoneUtc, BinaryLogOff, SqlMode, CharacterSetClient, CollationConnection, RepeatableRead, LockInstance, FlushTables, UnlockTables, UnlockInstance, StartSnapshot, Start, Commit, Rollback, Use, Create, CreateProgress, CreateProgressFiles, CreateProgressDump, Insert, InsertProgressFile, InsertProgressDump}
+use Rattle.statement_forms.specs.declared.command.Command.{Command}
+use Rattle.statement_forms.specs.declared.statement.Statement.TheVariants.{Command as SomeCommand, Query as SomeQuery}
 use Rattle.honest_server.specs.Catalogue.{AreOfRows, KeepCatalogue, KeepsCatalogue, no_more, a_row, a_rise, one_more}
 use Rattle.honest_server.specs.Effect.{Commits, Creates, Effect, EndsOpen, GoesInto}
 use Rattle.honest_server.specs.Laws.{AGuardedLinkSeesOneCatalogue}
 use Rattle.honest_server.specs.Moves.{SeesOthers}
 use Rattle.honest_server.specs.Serve.{done, rows, refused}
 use Rattle.honest_server.specs.State.{State, with_others}
+use Rattle.plain_data.proofs.Options.{same_some}
 
--- changes one behind the other
-changes_join : (database : Database) (front behind : List Change) → changes_db database (front ++ behind) ≡ option_and_then (λ (middle : Database). changes_db middle behind) (changes_db database front)
-changes_join database [] behind = refl
-changes_join database (change ∷ front) behind = by_first (λ next. changes_join next front behind) (change_db database change)
+-- changes one after the other
+changes_join : (database : Database) (front after : List Change) → changes_db database (front ++ after) ≡ option_and_then (λ (middle : Database). changes_db middle after) (changes_db database front)
+changes_join database [] after = refl
+changes_join database (change ∷ front) after = by_first (λ next. changes_join next front after) (change_db database change)
   where
-    by_first : ((next : Database) → changes_db next (front ++ behind) ≡ option_and_then (λ (middle : Database). changes_db middle behind) (changes_db next front)) → (next : Option Database) → option_and_then (λ (middle : Database). changes_db middle (front ++ behind)) next ≡ option_and_then (λ (middle : Database). changes_db middle behind) (option_and_then (λ (middle : Database). changes_db middle front) next)
+    by_first : ((next : Database) → changes_db next (front ++ after) ≡ option_and_then (λ (middle : Database). changes_db middle after) (changes_db next front)) → (next : Option Database) → option_and_then (λ (middle : Database). changes_db middle (front ++ after)) next ≡ option_and_then (λ (middle : Database). changes_db middle after) (option_and_then (λ (middle : Database). changes_db middle front) next)
     by_first joins None = refl
     by_first joins (Some next) = joins next
 
--- transactions one behind the other
-more_join : (database : Database) (front behind : List Transaction) → more_db database (front ++ behind) ≡ option_and_then (λ (middle : Database). more_db middle behind) (more_db database front)
-more_join database [] behind = refl
-more_join database (one ∷ front) behind = by_first (λ next. more_join next front behind) (changes_db database one.changes)
+-- transactions one after the other
+more_join : (database : Database) (front after : List Transaction) → more_db database (front ++ after) ≡ option_and_then (λ (middle : Database). more_db middle after) (more_db database front)
+more_join database [] after = refl
+more_join database (one ∷ front) after = by_first (λ next. more_join next front after) (changes_db database one.changes)
   where
-    by_first : ((next : Database) → more_db next (front ++ behind) ≡ option_and_then (λ (middle : Database). more_db middle behind) (more_db next front)) → (next : Option Database) → option_and_then (λ (middle : Database). more_db middle (front ++ behind)) next ≡ option_and_then (λ (middle : Database). more_db middle behind) (option_and_then (λ (middle : Database). more_db middle front) next)
+    by_first : ((next : Database) → more_db next (front ++ after) ≡ option_and_then (λ (middle : Database). more_db middle after) (more_db next front)) → (next : Option Database) → option_and_then (λ (middle : Database). more_db middle (front ++ after)) next ≡ option_and_then (λ (middle : Database). more_db middle after) (option_and_then (λ (middle : Database). more_db middle front) next)
     by_first joins None = refl
     by_first joins (Some next) = joins next
 
@@ -43,20 +44,17 @@ kept_leads : {old new : Database} {more : List Transaction} → KeepCatalogue ol
 kept_leads no_more = refl
 kept_leads (one_more {old} {middle} {new} {one} {others} first rest) = ap (λ (found : Option Database). option_and_then (λ (middle : Database). more_db middle others) found) (rows_lead first) ∙ kept_leads rest
 
-kept_join : {old middle new : Database} {more behind : List Transaction} → KeepCatalogue old more middle → KeepCatalogue middle behind new → KeepCatalogue old (more ++ behind) new
-kept_join no_more behind = behind
-kept_join (one_more first rest) behind = one_more first (kept_join rest behind)
-
-same_some : {X : Type 0} {x y : X} → Some x ≡ Some y → x ≡ y
-same_some e = cc
+kept_join : {old middle new : Database} {more after : List Transaction} → KeepCatalogue old more middle → KeepCatalogue middle after new → KeepCatalogue old (more ++ after) new
+kept_join no_more after = after
+kept_join (one_more first rest) after = one_more first (kept_join rest after)
 
 -- what follows a history, and then what follows that
-join : (history more behind : List Transaction) → KeepsCatalogue history more → KeepsCatalogue (history ++ more) behind → KeepsCatalogue history (more ++ behind)
-join history more behind first second = record {
+join : (history more after : List Transaction) → KeepsCatalogue history more → KeepsCatalogue (history ++ more) after → KeepsCatalogue history (more ++ after)
+join history more after first second = record {
   old = first.old;
   new = second.new;
   stands = first.stands;
-  keeps = kept_join first.keeps (subst (λ (database : Database). KeepCatalogue database behind second.new) (sym same) second.keeps);
+  keeps = kept_join first.keeps (subst (λ (database : Database). KeepCatalogue database after second.new) (sym same) second.keeps);
 }
   where
     leads : db (history ++ more) ≡ Some first.new

@@ -1,9 +1,9 @@
 -- Fronts of lists that stand first in an interleaving of the lists.
 use Rattle.std.proofs.Common.{◌≡◌, List, [], ◌∷◌, ◌++◌, refl, ap, sym, ◌∙◌, append_assoc, arith, subst, suc}
 use Rattle.std.specs.Prelude.{All, flat_map}
-use Rattle.server_model.proofs.Orders.{in_turn}
-use Rattle.server_model.specs.History.{Interleaves, TakesHead, here, none_left, takes, there}
-use Rattle.server_model.specs.declared.data.Transaction.{Transaction}
+use Rattle.server_data.proofs.Orders.{in_turn}
+use Rattle.server_data.specs.History.{Interleaves, TakesHead, here, none_left, takes, there}
+use Rattle.server_data.specs.declared.data.Transaction.{Transaction}
 use Rattle.honest_server.specs.Laws.{AGrantCanStandFirst, AreJoined, no_more, one_more}
 
 -- where all fronts are empty, the lists are their rests
@@ -25,8 +25,8 @@ takes_too (one_more joined) (there head) = let more = takes_too joined head in r
 
 -- the fronts first, and then the rests
 stand_first : {fronts rests lists : List (List Transaction)} {front rest : List Transaction} → AreJoined fronts rests lists → Interleaves fronts front → Interleaves rests rest → Interleaves lists (front ++ rest)
-stand_first {rest = rest} joined (none_left none) behind = subst (λ (lists : List (List Transaction)). Interleaves lists rest) (rests_alone joined none) behind
-stand_first joined (takes head others) behind = let more = takes_too joined head in takes more.head (stand_first more.joined others behind)
+stand_first {rest = rest} joined (none_left none) after = subst (λ (lists : List (List Transaction)). Interleaves lists rest) (rests_alone joined none) after
+stand_first joined (takes head others) after = let more = takes_too joined head in takes more.head (stand_first more.joined others after)
 
 pub grant_first : AGrantCanStandFirst
 grant_first base front fronts rests lists joined interleaves = (

@@ -1,20 +1,20 @@
 -- What a query is answered over a database (MySQL 8.0 Reference Manual, 28.3 "INFORMATION_SCHEMA General Tables", 15.7.7 "SHOW Statements", 15.2.13 "SELECT Statement").
 use Rattle.std.specs.Prelude.{ℕ, ◌≡◌, ◌⊎◌, ◌==◌, ◌&&◌, ◌||◌, not, Bool, true, false, List, [], ◌∷◌, map, filter, filter_map, flat_map, find, position, take, drop, slice_get, Option, Some, None, option_map, bytes_eq, nat_eq, codes, decimal, ℤ, int_lt, int_le}
 use Rattle.std.specs.List.{starts_with, list_any, list_all}
-use Rattle.object_texts.specs.Shape.{shape, is_integer, is_key}
-use Rattle.object_texts.specs.declared.head.Kind.{Kind}
-use Rattle.object_texts.specs.declared.head.Kind.TheVariants.{Schema, Table, Procedure, Function, View, Trigger}
-use Rattle.object_texts.specs.declared.shape.Column.{Column}
-use Rattle.server_model.specs.Bag.{IsSameBag}
-use Rattle.server_model.specs.Fold.{is_object, table_of, rows_of}
-use Rattle.server_model.specs.declared.data.Database.{Database}
-use Rattle.server_model.specs.declared.data.Object.{Object}
-use Rattle.server_model.specs.declared.data.Position.{Position}
-use Rattle.server_model.specs.declared.data.Settings.{Settings}
-use Rattle.sql_literals.specs.declared.cell.Cell.{Cell}
-use Rattle.sql_literals.specs.declared.cell.Cell.TheVariants.{Null, Value}
-use Rattle.sql_statements.specs.declared.query.Query.{Query}
-use Rattle.sql_statements.specs.declared.query.Query.TheVariants.{MasterStatus, Schemas, Tables, Columns as ColumnsQuery, PrimaryKey, Triggers, Routines, ViewNeeds, CreateDatabase, CreateTable, CreateView, CreateProcedure, CreateFunction, CreateTrigger, Key, KeyAbove, Rows, RowsByKey, RowsAbove, RowsUpTo, RowsBetween, ProgressDump, ProgressFiles}
+use Rattle.object_forms.specs.Shape.{shape, is_integer, is_key}
+use Rattle.object_forms.specs.declared.kind.Kind.{Kind}
+use Rattle.object_forms.specs.declared.kind.Kind.TheVariants.{Schema, Table, Procedure, Function, View, Trigger}
+use Rattle.object_forms.specs.declared.shape.Column.{Column}
+use Rattle.server_data.specs.Bag.{IsSameBag}
+use Rattle.server_data.specs.Fold.{is_object, table_of, rows_of}
+use Rattle.server_data.specs.declared.data.Database.{Database}
+use Rattle.server_data.specs.declared.data.Object.{Object}
+use Rattle.server_data.specs.declared.data.Position.{Position}
+use Rattle.server_data.specs.declared.data.Settings.{Settings}
+use Rattle.sql_cells.specs.declared.cell.Cell.{Cell}
+use Rattle.sql_cells.specs.declared.cell.Cell.TheVariants.{Null, Value}
+use Rattle.statement_forms.specs.declared.query.Query.{Query}
+use Rattle.statement_forms.specs.declared.query.Query.TheVariants.{MasterStatus, Schemas, Tables, Columns as ColumnsQuery, PrimaryKey, Triggers, Routines, ViewNeeds, CreateDatabase, CreateTable, CreateView, CreateProcedure, CreateFunction, CreateTrigger, Key, KeyAbove, Rows, RowsByKey, RowsAbove, RowsUpTo, RowsBetween, ProgressDump, ProgressFiles}
 use Rattle.honest_server.specs.Columns.{cell_at, integer_at, plain_names}
 
 -- the object of this kind, schema and name
@@ -60,13 +60,13 @@ abbrev pub rows_in_schema : (Object → Kind → Option (List Cell)) → Databas
 rows_in_schema row database schema = filter_map (λ object. row object object.kind) (filter (is_in_schema schema) database.objects)
 
 -- the bytes hold these bytes at some place
-abbrev pub holds : List ℕ → List ℕ → Bool
-holds needle [] = starts_with nat_eq [] needle
-holds needle (byte ∷ bytes) = starts_with nat_eq (byte ∷ bytes) needle || holds needle bytes
+abbrev pub has_bytes : List ℕ → List ℕ → Bool
+has_bytes needle [] = starts_with nat_eq [] needle
+has_bytes needle (byte ∷ bytes) = starts_with nat_eq (byte ∷ bytes) needle || has_bytes needle bytes
 
 -- what EXTRA says of a generated column
 abbrev pub says_generated : List ℕ → Bool
-says_generated extra = holds (codes "VIRTUAL GENERATED") extra || holds (codes "STORED GENERATED") extra
+says_generated extra = has_bytes (codes "VIRTUAL GENERATED") extra || has_bytes (codes "STORED GENERATED") extra
 
 -- COLUMNS: a column's name and type, whether it is generated, and, of a plain column of an integer type, whether it is unsigned. Only such
 -- a column can be a key. The type of another may hold the word 'unsigned' as a value of an enum, and its text as part of an expression.
@@ -74,7 +74,7 @@ pub record IsColumnRow (column : Column) (row : List Cell) : Type 0 where
   pub column_type : List ℕ
   pub extra : List ℕ
   pub row_is : row ≡ Value column.name ∷ Value column.data_type ∷ Value column_type ∷ Value extra ∷ []
-  pub unsigned : is_integer column.data_type ≡ true → column.generated ≡ false → holds (codes "unsigned") column_type ≡ column.unsigned
+  pub unsigned : is_integer column.data_type ≡ true → column.generated ≡ false → has_bytes (codes "unsigned") column_type ≡ column.unsigned
   pub generated : says_generated extra ≡ column.generated
 
 -- one row for each column, in their order
@@ -99,7 +99,7 @@ abbrev pub WhereThere : Option Object → (Object → Type 0) → Type 0 → Typ
 WhereThere None P otherwise = otherwise
 WhereThere (Some object) P otherwise = P object
 
--- SHOW CREATE: one row, in which the text stands in this place, behind the mode where it stands third, and before the settings
+-- SHOW CREATE: one row, in which the text stands in this place, after the mode where it stands third, and before the settings
 abbrev pub ShowsText : Object → List (List Cell) → Type 0
 ShowsText object rows = (first : Cell) × (more : List Cell) × (rows ≡ (first ∷ Value object.text ∷ more) ∷ [])
 
@@ -172,7 +172,7 @@ pub record ShowsAll (database : Database) (object : Object) (columns : List (Lis
 abbrev pub only_cell : List Column → ℕ → List Cell → Option (List Cell)
 only_cell columns index row = option_map (λ cell. cell ∷ []) (cell_at columns index row)
 
--- the key behind so many others that are above the bound, or none
+-- the key after so many others that are above the bound, or none
 pub record ShowsKey (database : Database) (object : Object) (key : List ℕ) (above : Option ℤ) (skipped : ℕ) (rows : List (List Cell)) : Type 0 where
   pub has_key : HasKey object key
   pub whole : List (List Cell)

@@ -1,16 +1,16 @@
 -- Which changes are of rows and which of the catalogue (MySQL 8.0 Reference Manual, 15.3.5 "LOCK INSTANCE FOR BACKUP and UNLOCK INSTANCE Statements"; that a counter's rise counts as a change of rows is a premise of our own).
 use Rattle.std.specs.Prelude.{ℕ, ◌≡◌, ◌<◌, ◌⊎◌, true, List, [], ◌∷◌, ◌++◌, map, Contains, Some, codes}
-use Rattle.object_texts.specs.Shape.{TableCounter, counter}
-use Rattle.object_texts.specs.declared.head.Kind.TheVariants.{Table}
-use Rattle.server_model.specs.Bag.{IsSameBag}
-use Rattle.server_model.specs.Fold.{change_db, changes_db, db, rows_of}
-use Rattle.server_model.specs.declared.data.Change.{Change}
-use Rattle.server_model.specs.declared.data.Change.TheVariants.{Make, Drop, Put, Remove}
-use Rattle.server_model.specs.declared.data.Database.{Database}
-use Rattle.server_model.specs.declared.data.Object.{Object}
-use Rattle.server_model.specs.declared.data.Transaction.{Transaction}
-use Rattle.sql_literals.specs.Number.{is_digits}
-use Rattle.sql_literals.specs.declared.cell.Cell.{Cell}
+use Rattle.object_forms.specs.Shape.{TableCounter, counter}
+use Rattle.object_forms.specs.declared.kind.Kind.TheVariants.{Table}
+use Rattle.server_data.specs.Bag.{IsSameBag}
+use Rattle.server_data.specs.Fold.{change_db, changes_db, db, rows_of}
+use Rattle.server_data.specs.declared.data.Change.{Change}
+use Rattle.server_data.specs.declared.data.Change.TheVariants.{Make, Drop, Put, Remove}
+use Rattle.server_data.specs.declared.data.Database.{Database}
+use Rattle.server_data.specs.declared.data.Object.{Object}
+use Rattle.server_data.specs.declared.data.Transaction.{Transaction}
+use Rattle.sql_cells.specs.Number.{is_digits}
+use Rattle.sql_cells.specs.declared.cell.Cell.{Cell}
 
 -- what says a table's counter in its text: nothing, or the option AUTO_INCREMENT
 abbrev pub IsCounterOption : List ℕ → Type 0
@@ -21,13 +21,13 @@ pub record RaisesCounter (old new : List ℕ) : Type 0 where
   pub front : List ℕ
   pub before : List ℕ
   pub now : List ℕ
-  pub behind : List ℕ
-  pub old_is : old ≡ front ++ before ++ behind
-  pub new_is : new ≡ front ++ now ++ behind
+  pub after : List ℕ
+  pub old_is : old ≡ front ++ before ++ after
+  pub new_is : new ≡ front ++ now ++ after
   pub before_is : IsCounterOption before
   pub now_is : IsCounterOption now
   pub without : TableCounter
-  pub is_without : counter (front ++ behind) ≡ Some without
+  pub is_without : counter (front ++ after) ≡ Some without
   pub only_option : without.next ≡ 1
   pub old_counter : TableCounter
   pub new_counter : TableCounter
@@ -65,7 +65,7 @@ pub data KeepCatalogue : Database → List Transaction → Database → Type 0 w
   no_more : {database : Database} → KeepCatalogue database [] database
   one_more : {old middle new : Database} {one : Transaction} {others : List Transaction} → AreOfRows old one.changes middle → KeepCatalogue middle others new → KeepCatalogue old (one ∷ others) new
 
--- behind this history no object is made or dropped by these transactions
+-- after this history no object is made or dropped by these transactions
 pub record KeepsCatalogue (history more : List Transaction) : Type 0 where
   pub old : Database
   pub new : Database

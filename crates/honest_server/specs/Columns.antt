@@ -1,14 +1,14 @@
 -- The columns of tables, and the numbers in their cells (MySQL 8.0 Reference Manual, 13.1 "Numeric Data Types", 5.6.9 "Using AUTO_INCREMENT").
 use Rattle.std.specs.Prelude.{ℕ, ◌+◌, ◌*◌, ◌-◌, ◌^◌, ◌==◌, ◌&&◌, ◌||◌, not, if◌then◌else◌, Bool, true, false, List, [], ◌∷◌, take, take_while, fold, map, filter, slice_get, Option, Some, None, option_and_then, bytes_eq, codes, ℤ, pos, neg_ℤ, int_le, int_lt}
 use Rattle.std.specs.List.{list_any}
-use Rattle.object_texts.specs.Shape.{is_integer}
-use Rattle.object_texts.specs.declared.shape.Column.{Column}
-use Rattle.server_model.specs.Fold.{is_plain, plain_count}
-use Rattle.sql_literals.specs.Cell.{bytes_of}
-use Rattle.sql_literals.specs.Literal.{has_literal}
-use Rattle.sql_literals.specs.Number.{is_digits, is_number}
-use Rattle.sql_literals.specs.declared.cell.Cell.{Cell}
-use Rattle.sql_literals.specs.declared.literal.CellKind.TheVariants.{Number}
+use Rattle.object_forms.specs.Shape.{is_integer}
+use Rattle.object_forms.specs.declared.shape.Column.{Column}
+use Rattle.server_data.specs.Fold.{is_plain, plain_count}
+use Rattle.sql_cells.specs.Cell.{bytes_of}
+use Rattle.sql_cells.specs.Literal.{has_literal}
+use Rattle.sql_cells.specs.Number.{is_digits, is_number}
+use Rattle.sql_cells.specs.declared.cell.Cell.{Cell}
+use Rattle.sql_cells.specs.declared.cell_kind.CellKind.TheVariants.{Number}
 
 -- types whose cells are numbers
 abbrev pub number_types : List (List ℕ)

@@ -1,26 +1,26 @@
 -- What a command does to a link's state and to the history (MySQL 8.0 Reference Manual, 15.3 "Transactional and Locking Statements", 15.7.8.3 "FLUSH Statement", 15.1 "Data Definition Statements").
 use Rattle.std.specs.Prelude.{ℕ, ◌≡◌, ◌<◌, ◌+◌, ◌^◌, max, true, false, List, [], ◌∷◌, ◌++◌, filter, fold, Option, Some, None, codes}
-use Rattle.object_texts.specs.Head.{Making, making}
-use Rattle.object_texts.specs.Shape.{undoubled}
-use Rattle.object_texts.specs.declared.head.Kind.{Kind}
-use Rattle.object_texts.specs.declared.head.Kind.TheVariants.{Schema, Table, Procedure, Function, View, Trigger}
-use Rattle.server_model.specs.Fold.{db, has_object}
-use Rattle.server_model.specs.declared.data.Change.{Change}
-use Rattle.server_model.specs.declared.data.Change.TheVariants.{Make}
-use Rattle.server_model.specs.declared.data.Database.{Database}
-use Rattle.server_model.specs.declared.data.Need.{Need}
-use Rattle.server_model.specs.declared.data.Object.{Object}
-use Rattle.server_model.specs.declared.data.Settings.{Settings}
-use Rattle.server_model.specs.declared.data.Transaction.{Transaction}
-use Rattle.sql_literals.specs.declared.cell.Cell.{Cell}
-use Rattle.sql_literals.specs.declared.cell.Cell.TheVariants.{Value}
-use Rattle.sql_statements.specs.Text.{command_text}
-use Rattle.sql_statements.specs.declared.command.Command.{Command}
-use Rattle.sql_statements.specs.declared.command.Command.TheVariants.{SetUp, NamesUtf8mb4, NamesBinary, ForeignKeyChecksOff, TimeZoneUtc, BinaryLogOff, SqlMode, CharacterSetClient, CollationConnection, RepeatableRead, LockInstance, FlushTables, UnlockTables, UnlockInstance, StartSnapshot, Start, Commit, Rollback, Use, Create, CreateProgress, CreateProgressFiles, CreateProgressDump, Insert, InsertProgressFile, InsertProgressDump}
+use Rattle.object_forms.specs.Head.{Making, making}
+use Rattle.object_forms.specs.Shape.{name_value}
+use Rattle.object_forms.specs.declared.kind.Kind.{Kind}
+use Rattle.object_forms.specs.declared.kind.Kind.TheVariants.{Schema, Table, Procedure, Function, View, Trigger}
+use Rattle.server_data.specs.Fold.{db, has_object}
+use Rattle.server_data.specs.declared.data.Change.{Change}
+use Rattle.server_data.specs.declared.data.Change.TheVariants.{Make}
+use Rattle.server_data.specs.declared.data.Database.{Database}
+use Rattle.server_data.specs.declared.data.Need.{Need}
+use Rattle.server_data.specs.declared.data.Object.{Object}
+use Rattle.server_data.specs.declared.data.Settings.{Settings}
+use Rattle.server_data.specs.declared.data.Transaction.{Transaction}
+use Rattle.sql_cells.specs.declared.cell.Cell.{Cell}
+use Rattle.sql_cells.specs.declared.cell.Cell.TheVariants.{Value}
+use Rattle.statement_forms.specs.Text.{command_text}
+use Rattle.statement_forms.specs.declared.command.Command.{Command}
+use Rattle.statement_forms.specs.declared.command.Command.TheVariants.{SetUp, NamesUtf8mb4, NamesBinary, ForeignKeyChecksOff, TimeZoneUtc, BinaryLogOff, SqlMode, CharacterSetClient, CollationConnection, RepeatableRead, LockInstance, FlushTables, UnlockTables, UnlockInstance, StartSnapshot, Start, Commit, Rollback, Use, Create, CreateProgress, CreateProgressFiles, CreateProgressDump, Insert, InsertProgressFile, InsertProgressDump}
 use Rattle.honest_server.specs.Answer.{progress_schema}
 use Rattle.honest_server.specs.Insert.{is_on_table, Inserts, SpellsInsert}
 use Rattle.honest_server.specs.Moves.{MayFollow}
-use Rattle.honest_server.specs.State.{State, found_by, no_settings, with_own}
+use Rattle.honest_server.specs.State.{State, database_found_by, no_settings, with_own}
 use Rattle.honest_server.specs.WellFormed.{HasItsShape, IsSound, NeedsItsTable}
 
 -- These changes are committed as a transaction, which may have a mark: it may follow what the link has seen, and the history stays sound.
@@ -40,7 +40,7 @@ EndsOpen state (Some changes) new = Commits state changes new
 abbrev pub MadeIn : Option (List ℕ) → Object → Option (List ℕ) → Kind → Type 0
 MadeIn current object named Schema = object.schema ≡ object.name
 MadeIn current object None kind = current ≡ Some object.schema
-MadeIn current object (Some spelled) kind = object.schema ≡ undoubled spelled
+MadeIn current object (Some spelled) kind = object.schema ≡ name_value spelled
 
 -- the settings of an object that is made
 abbrev pub made_settings : Settings → Kind → Option Settings
@@ -73,7 +73,7 @@ pub record IsMade (state : State) (database : Database) (text : List ℕ) (objec
   pub found : Making
   pub is_making : making text ≡ Some found
   pub kind : object.kind ≡ found.kind
-  pub name : object.name ≡ undoubled found.path.name
+  pub name : object.name ≡ name_value found.path.name
   pub schema : MadeIn state.schema object found.path.schema object.kind
   pub settings : object.settings ≡ made_settings state.settings object.kind
   pub shape : HasItsShape object object.kind
@@ -96,7 +96,7 @@ GoesInto state (Some before) changes new = new ≡ record state { pending = Some
 
 pub record InsertsInto (state : State) (schema table : List ℕ) (columns : List (List ℕ)) (rows : List (List Cell)) (new : State) : Type 0 where
   pub database : Database
-  pub found : found_by state ≡ Some database
+  pub found : database_found_by state ≡ Some database
   pub changes : List Change
   pub inserts : Inserts database schema table columns rows changes
   pub goes : GoesInto state state.pending changes new

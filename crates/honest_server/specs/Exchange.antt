@@ -1,25 +1,25 @@
 -- What is said on a link: the login, statements and their replies, and the end (MySQL source documentation, "Connection Phase", COM_QUERY, COM_QUIT).
 use Rattle.std.specs.Prelude.{ℕ, ◌≡◌, ◌⊎◌, true, false, Bool, List, [], ◌∷◌, ◌++◌, length, Some, None, Ok, Err}
-use Rattle.my_login.specs.Greeting.{greeting_of}
-use Rattle.my_login.specs.Switch.{switch_of}
-use Rattle.my_login.specs.Texts.{native_password}
-use Rattle.my_login.specs.declared.fault.LoginFault.TheVariants.{PluginUnsupported}
-use Rattle.my_login.specs.declared.greeting.Greeting.{Greeting}
-use Rattle.my_login.specs.declared.switch.Switch.{Switch}
-use Rattle.my_packets.specs.Packet.{packets, packet_count, id_behind}
-use Rattle.result_rows.specs.KeptText.{kept_text}
-use Rattle.result_rows.specs.declared.refusal.Refusal.{Refusal}
-use Rattle.server_model.specs.declared.data.Transaction.{Transaction}
-use Rattle.sql_statements.specs.Statement.{IsReadAs, IsTextOf}
-use Rattle.sql_statements.specs.declared.command.Command.{Command}
-use Rattle.sql_statements.specs.declared.form.Form.TheVariants.{Connect}
-use Rattle.sql_statements.specs.declared.statement.Statement.{Statement}
-use Rattle.sql_statements.specs.declared.statement.Statement.TheVariants.{Command as SomeCommand}
+use Rattle.wire_forms.specs.Greeting.{greeting_of}
+use Rattle.wire_forms.specs.Switch.{switch_of}
+use Rattle.wire_forms.specs.Texts.{native_password}
+use Rattle.wire_forms.specs.declared.login_fault.LoginFault.TheVariants.{PluginUnsupported}
+use Rattle.wire_forms.specs.declared.greeting.Greeting.{Greeting}
+use Rattle.wire_forms.specs.declared.switch.Switch.{Switch}
+use Rattle.wire_forms.specs.Packet.{packets, packet_count, id_after}
+use Rattle.wire_forms.specs.KeptText.{kept_text}
+use Rattle.wire_forms.specs.declared.refusal.Refusal.{Refusal}
+use Rattle.server_data.specs.declared.data.Transaction.{Transaction}
+use Rattle.statement_forms.specs.Statement.{IsReadAs, IsTextOf}
+use Rattle.statement_forms.specs.declared.command.Command.{Command}
+use Rattle.statement_forms.specs.declared.form.Form.TheVariants.{Connect}
+use Rattle.statement_forms.specs.declared.statement.Statement.{Statement}
+use Rattle.statement_forms.specs.declared.statement.Statement.TheVariants.{Command as SomeCommand}
 use Rattle.honest_server.specs.Effect.{EndsOpen, EndsTransaction}
 use Rattle.honest_server.specs.Moves.{Way, SeesOthers}
 use Rattle.honest_server.specs.Serve.{Reply, Serves, GivesErr}
 use Rattle.honest_server.specs.Spelled.{Spells, SpellsDone, SpellsErr, IsLean}
-use Rattle.honest_server.specs.State.{State, Phase, greeted, switching, in_session, over, with_others, with_error, closed}
+use Rattle.honest_server.specs.State.{State, Phase, greeted, switching, in_session, over, with_others, with_error, closed_state}
 
 -- COM_QUERY is the byte 03 and a text, COM_QUIT the byte 01
 abbrev pub query_payload : List ℕ → List ℕ
@@ -61,7 +61,7 @@ pub data Replies (way : Way) (state : State) (payload : List ℕ) (messages : Li
   -- the login is refused, and the link is over
   turned_away : (refusal : Refusal) → IsLoggingIn state.phase → state.terms.willing ≡ false → SpellsErr state.terms.willing refusal messages → new ≡ record (with_error state (Some Connect) refusal) { phase = over } → Replies way state payload messages new
   -- the session ends
-  quits : state.phase ≡ in_session → payload ≡ quit_payload → messages ≡ [] → new ≡ closed state → Replies way state payload messages new
+  quits : state.phase ≡ in_session → payload ≡ quit_payload → messages ≡ [] → new ≡ closed_state state → Replies way state payload messages new
   -- a statement is served
   served : (text : List ℕ) (statement : Statement) (reply : Reply) → state.phase ≡ in_session → payload ≡ query_payload text → IsReadAs text statement → Serves way state statement reply new → Spells state.terms.willing statement reply messages → Replies way state payload messages new
   -- anything else is answered by ERR
@@ -72,7 +72,7 @@ pub data Replies (way : Way) (state : State) (payload : List ℕ) (messages : Li
 -- the packets of messages one after the other, ids going on
 abbrev pub packets_from : ℕ → List (List ℕ) → List ℕ
 packets_from id [] = []
-packets_from id (message ∷ messages) = packets id message ++ packets_from (id_behind (packet_count (length message)) id) messages
+packets_from id (message ∷ messages) = packets id message ++ packets_from (id_after (packet_count (length message)) id) messages
 
 -- the sequence id that a client's message begins with: 0 of each command, and any in the login, where ids go on from the server's
 abbrev pub BeginsAt : Phase → ℕ → Type 0
@@ -97,7 +97,7 @@ pub record Exchanges (way : Way) (state : State) (message reply : List ℕ) (new
   pub is_message : IsMessage state.phase message payload
   pub messages : List (List ℕ)
   pub replies : Replies way state payload messages new
-  pub reply_is : reply ≡ packets_from (id_behind (packet_count (length payload)) is_message.id) messages
+  pub reply_is : reply ≡ packets_from (id_after (packet_count (length payload)) is_message.id) messages
 
 -- of a command that ends an open transaction, only that was done
 pub record CommitsAlone (state : State) (message : List ℕ) (new : State) : Type 0 where

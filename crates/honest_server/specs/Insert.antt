@@ -1,21 +1,21 @@
 -- What an INSERT spells, and what it does (MySQL 8.0 Reference Manual, 15.2.7 "INSERT Statement", 27.3 "Using Triggers", 5.6.9 "Using AUTO_INCREMENT").
 use Rattle.std.specs.Prelude.{ℕ, ◌≡◌, ◌&&◌, not, Bool, true, false, List, [], ◌∷◌, ◌++◌, map, All, slice_get, Option, Some, None, bytes_eq, codes, ℤ}
 use Rattle.std.specs.List.{list_any, list_all}
-use Rattle.object_texts.specs.Shape.{TableCounter, counter}
-use Rattle.object_texts.specs.declared.head.Kind.TheVariants.{Table, Trigger}
-use Rattle.object_texts.specs.declared.shape.Column.{Column}
-use Rattle.server_model.specs.Equal.{kind_eq}
-use Rattle.server_model.specs.Fold.{table_of, rows_of}
-use Rattle.server_model.specs.History.{Interleaves}
-use Rattle.server_model.specs.declared.data.Change.{Change}
-use Rattle.server_model.specs.declared.data.Change.TheVariants.{Put}
-use Rattle.server_model.specs.declared.data.Database.{Database}
-use Rattle.server_model.specs.declared.data.Object.{Object}
-use Rattle.sql_literals.specs.Cell.{bytes_of}
-use Rattle.sql_literals.specs.Name.{quoted_name}
-use Rattle.sql_literals.specs.Spelling.{Spells}
-use Rattle.sql_literals.specs.declared.cell.Cell.{Cell}
-use Rattle.sql_statements.specs.Text.{names}
+use Rattle.object_forms.specs.Shape.{TableCounter, counter}
+use Rattle.object_forms.specs.declared.kind.Kind.TheVariants.{Table, Trigger}
+use Rattle.object_forms.specs.declared.shape.Column.{Column}
+use Rattle.server_data.specs.Equal.{kind_eq}
+use Rattle.server_data.specs.Fold.{table_of, rows_of}
+use Rattle.server_data.specs.History.{Interleaves}
+use Rattle.server_data.specs.declared.data.Change.{Change}
+use Rattle.server_data.specs.declared.data.Change.TheVariants.{Put}
+use Rattle.server_data.specs.declared.data.Database.{Database}
+use Rattle.server_data.specs.declared.data.Object.{Object}
+use Rattle.sql_cells.specs.Cell.{bytes_of}
+use Rattle.sql_cells.specs.Name.{quoted_name}
+use Rattle.sql_cells.specs.Spelling.{Spells}
+use Rattle.sql_cells.specs.declared.cell.Cell.{Cell}
+use Rattle.statement_forms.specs.Text.{names}
 use Rattle.honest_server.specs.Answer.{object_at}
 use Rattle.honest_server.specs.Catalogue.{AreOfRows}
 use Rattle.honest_server.specs.Columns.{are_numbers, plain_columns, plain_names, whole_at, is_under}
@@ -61,8 +61,8 @@ are_under columns (Some counter) rows = list_all (is_under_counter columns count
 abbrev pub is_plain_insert : Database → Object → List (List Cell) → Bool
 is_plain_insert database object rows = not (has_trigger database object.schema object.name) && are_under object.columns (counter object.text) rows
 
-abbrev pub puts : Object → List (List Cell) → List Change
-puts object rows = map (λ row. Put object.schema object.name row) rows
+abbrev pub puts_of : Object → List (List Cell) → List Change
+puts_of object rows = map (λ row. Put object.schema object.name row) rows
 
 -- beside the rows, further changes of rows and rises of counters may be made, but not by a plain INSERT
 abbrev pub AddsTo : Bool → List Change → List Change → Type 0
@@ -75,7 +75,7 @@ pub record Inserts (database : Database) (schema table : List ℕ) (columns : Li
   pub is_there : object_at database Table schema table ≡ Some object
   pub all_columns : columns ≡ plain_names object.columns
   pub numbers : All (λ row. are_numbers (plain_columns object.columns) row ≡ true) rows
-  pub adds : AddsTo (is_plain_insert database object rows) (puts object rows) changes
+  pub adds : AddsTo (is_plain_insert database object rows) (puts_of object rows) changes
   pub keys : HasKeysWhere object.columns object.key (rows_of database schema table ++ rows)
   pub new : Database
   pub of_rows : AreOfRows database changes new

@@ -1,17 +1,17 @@
 -- What follows from the definitions of an honest server, and examples of what they allow and refuse. The functions of src/laws.rt are the proofs.
 use Rattle.std.specs.Prelude.{ℕ, ◌≡◌, ◌≢◌, Bool, true, false, List, [], ◌∷◌, ◌++◌, Some, None, codes, pos, neg_ℤ}
-use Rattle.object_texts.specs.declared.shape.Column.{Column}
-use Rattle.result_rows.specs.declared.refusal.Refusal.{Refusal}
-use Rattle.server_model.specs.Fold.{mark}
-use Rattle.server_model.specs.History.{Interleaves, IsPrefix}
-use Rattle.server_model.specs.declared.data.Change.{Change}
-use Rattle.server_model.specs.declared.data.Transaction.{Transaction}
-use Rattle.sql_literals.specs.declared.cell.Cell.{Cell}
-use Rattle.sql_statements.specs.declared.command.Command.TheVariants.{StartSnapshot, UnlockTables, Commit, Insert}
-use Rattle.sql_statements.specs.declared.query.Query.{Query}
-use Rattle.sql_statements.specs.declared.query.Query.TheVariants.{MasterStatus}
-use Rattle.sql_statements.specs.declared.statement.Statement.{Statement}
-use Rattle.sql_statements.specs.declared.statement.Statement.TheVariants.{Command as SomeCommand, Query as SomeQuery}
+use Rattle.object_forms.specs.declared.shape.Column.{Column}
+use Rattle.wire_forms.specs.declared.refusal.Refusal.{Refusal}
+use Rattle.server_data.specs.Fold.{mark}
+use Rattle.server_data.specs.History.{Interleaves, IsPrefix}
+use Rattle.server_data.specs.declared.data.Change.{Change}
+use Rattle.server_data.specs.declared.data.Transaction.{Transaction}
+use Rattle.sql_cells.specs.declared.cell.Cell.{Cell}
+use Rattle.statement_forms.specs.declared.command.Command.TheVariants.{StartSnapshot, UnlockTables, Commit, Insert}
+use Rattle.statement_forms.specs.declared.query.Query.{Query}
+use Rattle.statement_forms.specs.declared.query.Query.TheVariants.{MasterStatus}
+use Rattle.statement_forms.specs.declared.statement.Statement.{Statement}
+use Rattle.statement_forms.specs.declared.statement.Statement.TheVariants.{Command as SomeCommand, Query as SomeQuery}
 use Rattle.honest_server.specs.Answer.{ShowsMark}
 use Rattle.honest_server.specs.Catalogue.{KeepsCatalogue}
 use Rattle.honest_server.specs.Columns.{integer_of, is_in_type, is_under}
@@ -60,8 +60,8 @@ APlainSnapshotMayShowMore = (holder : State) × (state : State) × (new : State)
     × Serves plainly state (SomeCommand StartSnapshot) done new × (new.view ≢ Some holder.seen)
 
 -- once the read lock is given back, the position may be another than at its grant
-abbrev pub ThePositionMayMoveBehindTheLock : Type 0
-ThePositionMayMoveBehindTheLock = (state : State) × (unlocked : State) × (asked : State) × (found : List (List Cell)) × (state.frozen ≡ true)
+abbrev pub ThePositionMayMoveAfterTheLock : Type 0
+ThePositionMayMoveAfterTheLock = (state : State) × (unlocked : State) × (asked : State) × (found : List (List Cell)) × (state.frozen ≡ true)
     × Serves plainly state (SomeCommand UnlockTables) done unlocked × Serves plainly unlocked (SomeQuery MasterStatus) (rows found) asked × (ShowsMark (mark state.seen) found → ⊥)
 
 -- rows that are put outside a transaction are one of their own, and are there whatever is said later
@@ -84,7 +84,7 @@ pub data AreJoined : List (List Transaction) → List (List Transaction) → Lis
   one_more : {front rest : List Transaction} {fronts rests lists : List (List Transaction)} → AreJoined fronts rests lists → AreJoined (front ∷ fronts) (rest ∷ rests) ((front ++ rest) ∷ lists)
 
 -- A site where nobody else writes can keep that each grant is a prefix of the history: what a link had seen at its grant is the
--- history at its start and an interleaving of fronts of the links' transactions, and their rests can come behind it.
+-- history at its start and an interleaving of fronts of the links' transactions, and their rests can come after it.
 abbrev pub AGrantCanStandFirst : Type 0
 AGrantCanStandFirst = (base front : List Transaction) (fronts rests lists : List (List Transaction)) → AreJoined fronts rests lists → Interleaves fronts front
     → (whole : List Transaction) × Interleaves lists whole × IsPrefix (base ++ front) (base ++ whole)

@@ -1,8 +1,8 @@
 -- What an honest link tells, and what its calls do.
 use Rattle.std.specs.Prelude.{◌≡◌, ◌<◌, ◌≤◌, ◌⊎◌, ℕ, Bool, true, false, List, ◌++◌, length, take, All, Result, OnOk, OnErr, IfOk, IfSome}
-use Rattle.my_packets.specs.Packet.{packets}
-use Rattle.object_texts.specs.Head.{HasHead}
-use Rattle.server_model.specs.declared.data.Transaction.{Transaction}
+use Rattle.wire_forms.specs.Packet.{packets}
+use Rattle.object_forms.specs.Head.{HasHead}
+use Rattle.server_data.specs.declared.data.Transaction.{Transaction}
 use Rattle.honest_server.specs.Catalogue.{KeepsCatalogue}
 use Rattle.honest_server.specs.Exchange.{Exchanges, CommitsAlone, query_payload}
 use Rattle.honest_server.specs.Moves.{Way, plainly, beside}

@@ -1,6 +1,6 @@
 -- How what a link has seen moves on (MySQL 8.0 Reference Manual, 15.7.8.3 "FLUSH Statement", 15.3.5 "LOCK INSTANCE FOR BACKUP"; what quiet and sole mean is ours).
 use Rattle.std.specs.Prelude.{◌≡◌, ◌++◌, true, false, List, []}
-use Rattle.server_model.specs.declared.data.Transaction.{Transaction}
+use Rattle.server_data.specs.declared.data.Transaction.{Transaction}
 use Rattle.honest_server.specs.Catalogue.{KeepsCatalogue}
 use Rattle.honest_server.specs.State.{State}
 

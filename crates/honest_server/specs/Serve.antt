@@ -1,39 +1,39 @@
 -- Which statements an honest server serves, and how (MySQL 8.0 Reference Manual, 17.7.2.3 "Consistent Nonlocking Reads", 15.3.1 "START TRANSACTION, COMMIT, and ROLLBACK Statements").
 use Rattle.std.specs.Prelude.{◌≡◌, ◌⊎◌, true, List, [], Option, Some, None}
-use Rattle.result_rows.specs.declared.refusal.Refusal.{Refusal}
-use Rattle.server_model.specs.Fold.{db, mark}
-use Rattle.server_model.specs.History.{IsPrefix}
-use Rattle.server_model.specs.declared.data.Change.{Change}
-use Rattle.server_model.specs.declared.data.Database.{Database}
-use Rattle.server_model.specs.declared.data.Transaction.{Transaction}
-use Rattle.sql_literals.specs.declared.cell.Cell.{Cell}
-use Rattle.sql_statements.specs.Form.{form_of, query_form}
-use Rattle.sql_statements.specs.declared.form.Form.{Form}
-use Rattle.sql_statements.specs.declared.form.Form.TheVariants.{Select}
-use Rattle.sql_statements.specs.declared.query.Query.{Query}
-use Rattle.sql_statements.specs.declared.query.Query.TheVariants.{MasterStatus}
-use Rattle.sql_statements.specs.declared.statement.Statement.{Statement}
-use Rattle.sql_statements.specs.declared.statement.Statement.TheVariants.{Command as SomeCommand, Query as SomeQuery}
+use Rattle.wire_forms.specs.declared.refusal.Refusal.{Refusal}
+use Rattle.server_data.specs.Fold.{db, mark}
+use Rattle.server_data.specs.History.{IsPrefix}
+use Rattle.server_data.specs.declared.data.Change.{Change}
+use Rattle.server_data.specs.declared.data.Database.{Database}
+use Rattle.server_data.specs.declared.data.Transaction.{Transaction}
+use Rattle.sql_cells.specs.declared.cell.Cell.{Cell}
+use Rattle.statement_forms.specs.Form.{form_of, query_form}
+use Rattle.statement_forms.specs.declared.form.Form.{Form}
+use Rattle.statement_forms.specs.declared.form.Form.TheVariants.{Select}
+use Rattle.statement_forms.specs.declared.query.Query.{Query}
+use Rattle.statement_forms.specs.declared.query.Query.TheVariants.{MasterStatus}
+use Rattle.statement_forms.specs.declared.statement.Statement.{Statement}
+use Rattle.statement_forms.specs.declared.statement.Statement.TheVariants.{Command as SomeCommand, Query as SomeQuery}
 use Rattle.honest_server.specs.Answer.{Answers, ShowsMark, tells_text}
 use Rattle.honest_server.specs.Effect.{Effect}
 use Rattle.honest_server.specs.Moves.{Way, plainly, beside, Sees, SeesOthers, Ends}
 use Rattle.honest_server.specs.State.{State, with_others, with_error}
 
--- a reply: OK, rows, or an ERR, behind some rows or none
+-- a reply: OK, rows, or an ERR, after some rows or none
 pub data Reply : Type 0 where
   done : Reply
   rows : List (List Cell) → Reply
   refused : List (List Cell) → Refusal → Reply
 
 -- the history that a query is answered by: that of the view for a SELECT, where one is set
-abbrev pub shown : State → Form → Option (List Transaction) → List Transaction
-shown state form None = state.seen
-shown state Select (Some view) = view
-shown state form (Some view) = state.seen
+abbrev pub shown_history : State → Form → Option (List Transaction) → List Transaction
+shown_history state form None = state.seen
+shown_history state Select (Some view) = view
+shown_history state form (Some view) = state.seen
 
 pub record IsAnswered (state : State) (query : Query) (found : List (List Cell)) : Type 0 where
   pub database : Database
-  pub stands : db (shown state (query_form query) state.view) ≡ Some database
+  pub stands : db (shown_history state (query_form query) state.view) ≡ Some database
   pub answers : Answers database query found
   pub told : state.terms.willing ≡ true → tells_text query found ≡ true
 

@@ -1,8 +1,8 @@
 -- What an honest site tells, and what its calls do (a premise of our own, but for what closing a connection does: MySQL 8.0 Reference Manual, 15.3.3 "Statements That Cause an Implicit Commit", 15.3.6 "LOCK TABLES and UNLOCK TABLES Statements").
 use Rattle.std.specs.Prelude.{◌≡◌, ℕ, zero, suc, ◌++◌, ◌∷◌, Bool, true, false, List, [], All, None}
-use Rattle.my_packets.specs.Packet.{packets}
-use Rattle.server_model.specs.History.{IsPrefix, Interleaves}
-use Rattle.server_model.specs.declared.data.Transaction.{Transaction}
+use Rattle.wire_forms.specs.Packet.{packets}
+use Rattle.server_data.specs.History.{IsPrefix, Interleaves}
+use Rattle.server_data.specs.declared.data.Transaction.{Transaction}
 use Rattle.honest_server.specs.Catalogue.{KeepsCatalogue}
 use Rattle.honest_server.specs.Exchange.{IsGreeting}
 use Rattle.honest_server.specs.Link.{ServedLink}
@@ -33,8 +33,8 @@ abbrev pub terms_of : ServedSite → Bool → Terms
 terms_of site sole = record { base = site.history; quiet = site.quiet; sole = sole; willing = site.willing; plugin = site.plugin }
 
 -- the state of a new link that has seen this
-abbrev pub fresh : Terms → List Transaction → State
-fresh terms seen = record {
+abbrev pub fresh_state : Terms → List Transaction → State
+fresh_state terms seen = record {
   terms = terms;
   phase = greeted;
   seen = seen;
@@ -56,7 +56,7 @@ pub record IsNewLink (site : ServedSite) (sole : Bool) (link : ServedLink) : Typ
   pub greets : IsGreeting site.willing greeting
   pub waits : link.waiting ≡ packets 0 greeting
   pub seen : HasSeen site sole link.state.seen
-  pub state_is : link.state ≡ fresh (terms_of site sole) link.state.seen
+  pub state_is : link.state ≡ fresh_state (terms_of site sole) link.state.seen
 
 -- what connecting leaves as it was; where others write, the history may have grown
 pub record Connects (old new : ServedSite) : Type 0 where
@@ -69,7 +69,7 @@ pub record Gathers (old : ServedSite) (state : State) (new : ServedSite) : Type 
   pub history : old.quiet ≡ true → new.history ≡ old.history
   pub returned : new.returned ≡ old.returned ++ state.mine ∷ []
 
--- None is out any more: where nobody else writes, the history is the old one, and behind it one interleaving of the links' transactions.
+-- None is out any more: where nobody else writes, the history is the old one, and after it one interleaving of the links' transactions.
 pub record Settles (old : ServedSite) (state : State) (new : ServedSite) : Type 0 where
   pub whole : List Transaction
   pub interleaves : old.quiet ≡ true → Interleaves (old.returned ++ state.mine ∷ []) whole

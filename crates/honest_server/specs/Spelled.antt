@@ -1,19 +1,19 @@
 -- The messages that spell a reply (MySQL source documentation, COM_QUERY Response, ProtocolText::Resultset). How long they may be is a premise of our own.
 use Rattle.std.specs.Prelude.{ℕ, ◌≡◌, ◌≤◌, ◌+◌, ◌*◌, ◌⊎◌, Bool, true, List, [], ◌∷◌, ◌++◌, length, map, replicate, sum_by, Some, All}
-use Rattle.result_rows.specs.Reading.{definition, row, refused as refused_turn, counted}
-use Rattle.result_rows.specs.Reply.{reply_of}
-use Rattle.result_rows.specs.ResultSet.{IsResultSet, taken}
-use Rattle.result_rows.specs.Row.{Cell as SentCell}
-use Rattle.result_rows.specs.declared.refusal.Refusal.{Refusal}
-use Rattle.result_rows.specs.declared.reader.Reply.TheVariants.{Done, Refused, Columns}
-use Rattle.sql_literals.specs.Cell.{bytes_of}
-use Rattle.sql_literals.specs.declared.cell.Cell.{Cell}
-use Rattle.sql_literals.specs.declared.cell.Cell.TheVariants.{Null, Value}
-use Rattle.sql_statements.specs.Text.{query_text}
-use Rattle.sql_statements.specs.declared.query.Query.{Query}
-use Rattle.sql_statements.specs.declared.query.Query.TheVariants.{MasterStatus, Columns as ColumnsQuery, CreateDatabase, CreateTable, CreateView, CreateProcedure, CreateFunction, CreateTrigger}
-use Rattle.sql_statements.specs.declared.statement.Statement.{Statement}
-use Rattle.sql_statements.specs.declared.statement.Statement.TheVariants.{Command as SomeCommand, Query as SomeQuery}
+use Rattle.wire_forms.specs.Reading.{definition, row, refused as refused_turn, columns_counted}
+use Rattle.wire_forms.specs.Reply.{reply_of}
+use Rattle.wire_forms.specs.ResultSet.{IsResultSet, turns_of}
+use Rattle.wire_forms.specs.Row.{Cell as SentCell}
+use Rattle.wire_forms.specs.declared.refusal.Refusal.{Refusal}
+use Rattle.wire_forms.specs.declared.reply.Reply.TheVariants.{Done, Refused, Columns}
+use Rattle.sql_cells.specs.Cell.{bytes_of}
+use Rattle.sql_cells.specs.declared.cell.Cell.{Cell}
+use Rattle.sql_cells.specs.declared.cell.Cell.TheVariants.{Null, Value}
+use Rattle.statement_forms.specs.Text.{query_text}
+use Rattle.statement_forms.specs.declared.query.Query.{Query}
+use Rattle.statement_forms.specs.declared.query.Query.TheVariants.{MasterStatus, Columns as ColumnsQuery, CreateDatabase, CreateTable, CreateView, CreateProcedure, CreateFunction, CreateTrigger}
+use Rattle.statement_forms.specs.declared.statement.Statement.{Statement}
+use Rattle.statement_forms.specs.declared.statement.Statement.TheVariants.{Command as SomeCommand, Query as SomeQuery}
 use Rattle.honest_server.specs.Answer.{without_line_feeds}
 use Rattle.honest_server.specs.Serve.{Reply, done, rows, refused}
 
@@ -35,7 +35,7 @@ abbrev pub file_and_gtid : List Cell → ℕ
 file_and_gtid (Value file ∷ offset ∷ third ∷ fourth ∷ Value gtid ∷ more) = length file + length (without_line_feeds gtid)
 file_and_gtid cells = 0
 
--- the cell behind the first, and those two behind the text
+-- the cell after the first, and those two after the text
 abbrev pub text_size : List Cell → ℕ
 text_size (first ∷ text ∷ more) = cell_size text
 text_size cells = 0
@@ -101,14 +101,14 @@ pub record SpellsErr (willing : Bool) (refusal : Refusal) (messages : List (List
   pub says : reply_of message ≡ Some (Refused refusal)
   pub lean : willing ≡ true → IsLean message
 
--- an ERR behind some rows of a query
+-- an ERR after some rows of a query
 pub record BreaksOff (willing : Bool) (query : Query) (found : List (List Cell)) (refusal : Refusal) (messages : List (List ℕ)) : Type 0 where
   pub columns : ℕ
   pub first : List ℕ
   pub others : List (List ℕ)
   pub messages_are : messages ≡ first ∷ others
   pub counts : reply_of first ≡ Some (Columns columns)
-  pub turns : taken (counted columns) others ≡ replicate (columns + 1) definition ++ (map row (sent_rows found) ++ refused_turn refusal ∷ [])
+  pub turns : turns_of (columns_counted columns) others ≡ replicate (columns + 1) definition ++ (map row (sent_rows found) ++ refused_turn refusal ∷ [])
   pub lean : willing ≡ true → IsLeanSet query found messages
 
 pub record SpellsDone (willing : Bool) (messages : List (List ℕ)) : Type 0 where
@@ -117,7 +117,7 @@ pub record SpellsDone (willing : Bool) (messages : List (List ℕ)) : Type 0 whe
   pub says : reply_of message ≡ Some Done
   pub lean : willing ≡ true → IsLean message
 
--- an ERR alone, or behind the front of a result set
+-- an ERR alone, or after the front of a result set
 abbrev pub SpellsRefusal : Bool → Query → List (List Cell) → Refusal → List (List ℕ) → Type 0
 SpellsRefusal willing query found refusal messages = ((found ≡ []) × SpellsErr willing refusal messages) ⊎ BreaksOff willing query found refusal messages
 

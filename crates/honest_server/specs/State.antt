@@ -1,12 +1,12 @@
 -- The state of a link, as an honest server keeps it (MySQL 8.0 Reference Manual, 15.3 "Transactional and Locking Statements", 7.1.9 "Using System Variables").
 use Rattle.std.specs.Prelude.{ℕ, Bool, false, List, [], ◌++◌, ◌∷◌, Option, Some, None, option_and_then}
-use Rattle.result_rows.specs.declared.refusal.Refusal.{Refusal}
-use Rattle.server_model.specs.Fold.{db, changes_db}
-use Rattle.server_model.specs.declared.data.Change.{Change}
-use Rattle.server_model.specs.declared.data.Database.{Database}
-use Rattle.server_model.specs.declared.data.Settings.{Settings}
-use Rattle.server_model.specs.declared.data.Transaction.{Transaction}
-use Rattle.sql_statements.specs.declared.form.Form.{Form}
+use Rattle.wire_forms.specs.declared.refusal.Refusal.{Refusal}
+use Rattle.server_data.specs.Fold.{db, changes_db}
+use Rattle.server_data.specs.declared.data.Change.{Change}
+use Rattle.server_data.specs.declared.data.Database.{Database}
+use Rattle.server_data.specs.declared.data.Settings.{Settings}
+use Rattle.server_data.specs.declared.data.Transaction.{Transaction}
+use Rattle.statement_forms.specs.declared.form.Form.{Form}
 
 -- where a link is: the server has greeted, it has asked for another plugin, a session is open, or it is over
 pub data Phase : Type 0 where
@@ -55,9 +55,9 @@ abbrev pub open_changes : Option (List Change) → List Change
 open_changes None = []
 open_changes (Some changes) = changes
 
--- the database as the link's own statements find it: behind what it has seen, and its open transaction
-abbrev pub found_by : State → Option Database
-found_by state = option_and_then (λ (database : Database). changes_db database (open_changes state.pending)) (db state.seen)
+-- the database as the link's own statements find it: after what it has seen, and its open transaction
+abbrev pub database_found_by : State → Option Database
+database_found_by state = option_and_then (λ (database : Database). changes_db database (open_changes state.pending)) (db state.seen)
 
 -- the link has seen these transactions of others
 abbrev pub with_others : State → List Transaction → State
@@ -71,5 +71,5 @@ abbrev pub with_error : State → Option Form → Refusal → State
 with_error state form refusal = record state { errors = state.errors ++ record { form = form; refusal = refusal } ∷ [] }
 
 -- the locks and the open transaction are gone
-abbrev pub closed : State → State
-closed state = record state { phase = over; guarded = false; frozen = false; pending = None }
+abbrev pub closed_state : State → State
+closed_state state = record state { phase = over; guarded = false; frozen = false; pending = None }

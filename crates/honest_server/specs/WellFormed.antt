@@ -2,20 +2,20 @@
 use Rattle.std.specs.Prelude.{ℕ, ◌≡◌, ◌≢◌, ◌<◌, ◌^◌, ◌&&◌, not, nat_le, nat_lt, Bool, true, List, [], ◌∷◌, map, All, AllPairs, slice_get, Option, Some, None, IfSome}
 use Rattle.std.specs.List.{list_all}
 use Rattle.std.specs.Str.{is_utf8}
-use Rattle.object_texts.specs.Head.{Making, Path, making, trigger_table}
-use Rattle.object_texts.specs.Shape.{TableShape, TableCounter, shape, counter, undoubled}
-use Rattle.object_texts.specs.declared.head.Kind.{Kind}
-use Rattle.object_texts.specs.declared.head.Kind.TheVariants.{Schema, Table, Procedure, Function, View, Trigger}
-use Rattle.object_texts.specs.declared.shape.Column.{Column}
-use Rattle.server_model.specs.Fold.{has_object, rows_of, db}
-use Rattle.server_model.specs.Select.{is_empty}
-use Rattle.server_model.specs.declared.data.Database.{Database}
-use Rattle.server_model.specs.declared.data.Need.{Need}
-use Rattle.server_model.specs.declared.data.Object.{Object}
-use Rattle.server_model.specs.declared.data.Position.{Position}
-use Rattle.server_model.specs.declared.data.Settings.{Settings}
-use Rattle.server_model.specs.declared.data.Transaction.{Transaction}
-use Rattle.sql_literals.specs.declared.cell.Cell.{Cell}
+use Rattle.object_forms.specs.Head.{Making, Path, making, trigger_table}
+use Rattle.object_forms.specs.Shape.{TableShape, TableCounter, shape, counter, name_value}
+use Rattle.object_forms.specs.declared.kind.Kind.{Kind}
+use Rattle.object_forms.specs.declared.kind.Kind.TheVariants.{Schema, Table, Procedure, Function, View, Trigger}
+use Rattle.object_forms.specs.declared.shape.Column.{Column}
+use Rattle.server_data.specs.Fold.{has_object, rows_of, db}
+use Rattle.server_data.specs.Select.{is_empty}
+use Rattle.server_data.specs.declared.data.Database.{Database}
+use Rattle.server_data.specs.declared.data.Need.{Need}
+use Rattle.server_data.specs.declared.data.Object.{Object}
+use Rattle.server_data.specs.declared.data.Position.{Position}
+use Rattle.server_data.specs.declared.data.Settings.{Settings}
+use Rattle.server_data.specs.declared.data.Transaction.{Transaction}
+use Rattle.sql_cells.specs.declared.cell.Cell.{Cell}
 use Rattle.honest_server.specs.Columns.{are_numbers, plain_columns, integer_at, is_in_type, is_under, whole_at}
 
 -- a name is UTF-8, and isn't empty
@@ -25,14 +25,14 @@ is_name name = not (is_empty name) && is_utf8 name
 -- a name of a text, which may be missing there, is this one
 abbrev pub NamesOrLeavesOut : Option (List ℕ) → List ℕ → Type 0
 NamesOrLeavesOut None name = Unit {0}
-NamesOrLeavesOut (Some spelled) name = undoubled spelled ≡ name
+NamesOrLeavesOut (Some spelled) name = name_value spelled ≡ name
 
 -- the head of an object's text gives its kind and its name, and its schema where it gives one; a schema's schema is its name
 pub record HasItsHead (object : Object) : Type 0 where
   pub found : Making
   pub is_making : making object.text ≡ Some found
   pub kind : found.kind ≡ object.kind
-  pub name : undoubled found.path.name ≡ object.name
+  pub name : name_value found.path.name ≡ object.name
   pub schema : NamesOrLeavesOut found.path.schema object.schema
   pub own : object.kind ≡ Schema → object.schema ≡ object.name
 
@@ -67,7 +67,7 @@ pub record NeedsItsTable (object : Object) (table : Need) : Type 0 where
   pub is_found : trigger_table object.text ≡ Some found
   pub schema : NamesOrLeavesOut found.schema object.schema
   pub own : table.schema ≡ object.schema
-  pub name : table.name ≡ undoubled found.name
+  pub name : table.name ≡ name_value found.name
   pub needs : object.needs ≡ table ∷ []
 
 -- and that table is there

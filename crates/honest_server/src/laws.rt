@@ -1,5 +1,5 @@
 // What follows from the definitions. Nothing here runs: the contracts are the laws.
-ghost use Rattle.honest_server.specs.Laws.{AFrozenLinkSeesNothingNew, AGuardedLinkSeesOneCatalogue, ASoleLinkSeesItsOwn, ASnapshotBesideShowsTheHolders, AStatementBesideSeesTheHolders, RowsBeforeAnErrAreOfAnAnswer, APlainSnapshotMayShowMore, ThePositionMayMoveBehindTheLock, AnInsertAloneIsCommitted, AnInsertWaitsForItsCommit, ACommitIsWhole, AGrantCanStandFirst, IntegersAreRead, ANewLinkHoldsNothing};
+ghost use Rattle.honest_server.specs.Laws.{AFrozenLinkSeesNothingNew, AGuardedLinkSeesOneCatalogue, ASoleLinkSeesItsOwn, ASnapshotBesideShowsTheHolders, AStatementBesideSeesTheHolders, RowsBeforeAnErrAreOfAnAnswer, APlainSnapshotMayShowMore, ThePositionMayMoveAfterTheLock, AnInsertAloneIsCommitted, AnInsertWaitsForItsCommit, ACommitIsWhole, AGrantCanStandFirst, IntegersAreRead, ANewLinkHoldsNothing};
 
 /// A link that holds the read lock sees nothing new at a plain statement, and commits nothing.
 pub fn a_frozen_link_sees_nothing_new()
@@ -39,8 +39,8 @@ pub fn a_plain_snapshot_may_show_more()
 {}
 
 /// Once the read lock is given back, the position may be another than at its grant.
-pub fn the_position_may_move_behind_the_lock()
-    ensures { ThePositionMayMoveBehindTheLock }
+pub fn the_position_may_move_after_the_lock()
+    ensures { ThePositionMayMoveAfterTheLock }
 {}
 
 /// Rows that are put outside a transaction are a transaction of their own.
@@ -60,7 +60,7 @@ pub fn a_commit_is_whole()
 
 /// Where nobody else writes, a grant of the read lock can stay a prefix of the history: what its link
 /// had seen, which is the history at its start and an interleaving of fronts of what the links committed,
-/// can stand first, and the rests behind it.
+/// can stand first, and the rests after it.
 pub fn a_grant_can_stand_first()
     ensures { AGrantCanStandFirst }
 {}

@@ -11,5 +11,5 @@ pub use laws::{
     a_snapshot_beside_shows_the_holders, a_sole_link_sees_its_own,
     a_statement_beside_sees_the_holders, an_insert_alone_is_committed,
     an_insert_waits_for_its_commit, integers_are_read, rows_before_an_err_are_of_an_answer,
-    the_position_may_move_behind_the_lock,
+    the_position_may_move_after_the_lock,
 };

@@ -2,9 +2,5 @@ pub mod Cause
 pub mod Contents
 pub mod Folder
 pub mod Link
-pub mod Memory
-pub mod Moments
-pub mod Replies
-pub mod Script
 pub mod Site
 pub mod Unserved

@@ -8,14 +8,14 @@ pub record Told : Type 0 where
   pub coming : List (List ℕ)
   pub failed : Bool
 
--- the lists one behind the other
-abbrev pub joined : List (List ℕ) → List ℕ
-joined [] = []
-joined (list ∷ lists) = list ++ joined lists
+-- the lists one after the other
+abbrev pub concatenation : List (List ℕ) → List ℕ
+concatenation [] = []
+concatenation (list ∷ lists) = list ++ concatenation lists
 
 -- all that the peer is still to say: what waits, and then what is still to come
 abbrev pub stream : Told → List ℕ
-stream told = told.waiting ++ joined told.coming
+stream told = told.waiting ++ concatenation told.coming
 
 abbrev pub first : List (List ℕ) → List ℕ
 first [] = []
@@ -26,12 +26,12 @@ others [] = []
 others (list ∷ lists) = lists
 
 -- a link at its start: the first bytes of its conversation wait
-abbrev pub begun : List (List ℕ) → Told
-begun conversation = record { sent = []; waiting = first conversation; coming = others conversation; failed = false }
+abbrev pub told_at_start : List (List ℕ) → Told
+told_at_start conversation = record { sent = []; waiting = first conversation; coming = others conversation; failed = false }
 
 -- the message was sent, and the next bytes wait too
-abbrev pub answered : Told → List ℕ → Told
-answered old message = record {
+abbrev pub told_after_send : Told → List ℕ → Told
+told_after_send old message = record {
   sent = old.sent ++ message ∷ [];
   waiting = old.waiting ++ first old.coming;
   coming = others old.coming;
@@ -39,14 +39,14 @@ answered old message = record {
 }
 
 -- the link has failed, and nothing else has changed
-abbrev pub broken : Told → Told
-broken old = record old { failed = true }
+abbrev pub told_after_failure : Told → Told
+told_after_failure old = record old { failed = true }
 
 -- a send is answered, or the link fails; one that has failed before fails again
 pub record Sends {T E : Type 0} (old : Told) (message : List ℕ) (result : Result T E) (new : Told) : Type 0 where
   pub alive : OnOk result (old.failed ≡ false)
-  pub ok : OnOk result (new ≡ answered old message)
-  pub err : OnErr result (new ≡ broken old)
+  pub ok : OnOk result (new ≡ told_after_send old message)
+  pub err : OnErr result (new ≡ told_after_failure old)
 
 -- so many bytes were taken off what waits
 pub record TakesOff (old : Told) (buffer : List ℕ) (count : ℕ) (new : Told) : Type 0 where
@@ -59,7 +59,7 @@ pub record TakesOff (old : Told) (buffer : List ℕ) (count : ℕ) (new : Told) 
 -- bytes are taken off what waits, or the link fails; one that has failed before fails again
 pub record Receives {E : Type 0} (old : Told) (buffer : List ℕ) (result : Result ℕ E) (new : Told) : Type 0 where
   pub ok : IfOk result (λ count. TakesOff old buffer count new)
-  pub err : OnErr result (new ≡ broken old)
+  pub err : OnErr result (new ≡ told_after_failure old)
 
 -- at least one byte was taken, and no more than there is room for
 pub record IsWithin (room : List ℕ) (count : ℕ) : Type 0 where

@@ -17,9 +17,9 @@ next_of [] = []
 next_of (conversation ∷ more) = conversation
 
 -- a connection was asked for: that conversation is used up
-abbrev pub connected : SiteTold → SiteTold
-connected old = record old { conversations = drop 1 old.conversations }
+abbrev pub told_after_connect : SiteTold → SiteTold
+told_after_connect old = record old { conversations = drop 1 old.conversations }
 
 -- a link with these messages came back
-abbrev pub returned : SiteTold → List (List ℕ) → SiteTold
-returned old sent = record old { sent = old.sent ++ sent ∷ [] }
+abbrev pub told_after_return : SiteTold → List (List ℕ) → SiteTold
+told_after_return old sent = record old { sent = old.sent ++ sent ∷ [] }

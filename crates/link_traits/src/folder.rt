@@ -2,9 +2,9 @@
 ghost use Rattle.std.specs.Prelude.{◌≡◌, ◌<◌, ◌≤◌, ◌+◌, ◌-◌, ◌^◌, ◌++◌, ◌↔◌, [], ℕ, Bool, true, false, List, Option, Some, Contains, length, IfOk, OnOk, OnErr, min};
 ghost use Rattle.link_traits.specs.Cause.{Rose, HasCause};
 ghost use Rattle.link_traits.specs.Contents.{File, ShelfTold, names, IsListing, AreApart};
-ghost use Rattle.link_traits.specs.Folder.{with_begun, longer, finished};
+ghost use Rattle.link_traits.specs.Folder.{told_after_create, told_after_append, files_after_finish};
 
-use sql_literals::{NameList, OutOfMemory};
+use plain_data::{NameList, OutOfMemory};
 use thiserror::Error;
 
 /// The folder or one of its files failed. The object has counted it.
@@ -46,7 +46,7 @@ pub trait Shelf: Drop {
         requires new_name { tells self.old → Contains (names (told self.old).made) name.now → ⊥ }
 
         ensures tells { tells self.old ↔ tells self.new }
-        ensures ok { tells self.old → OnOk result (told self.new ≡ with_begun (told self.old) name.now) }
+        ensures ok { tells self.old → OnOk result (told self.new ≡ told_after_create (told self.old) name.now) }
         ensures err { tells self.old → OnErr result ((told self.new).made ≡ (told self.old).made) }
         ensures begun { OnOk result (is_begun self.new ≡ true) }
         ensures none_begun { OnErr result (is_begun self.new ≡ false) }
@@ -59,7 +59,7 @@ pub trait Shelf: Drop {
         requires begun { is_begun self.old ≡ true }
 
         ensures tells { tells self.old ↔ tells self.new }
-        ensures ok { tells self.old → OnOk result (told self.new ≡ longer (told self.old) bytes.now) }
+        ensures ok { tells self.old → OnOk result (told self.new ≡ told_after_append (told self.old) bytes.now) }
         ensures err { tells self.old → OnErr result ((told self.new).made ≡ (told self.old).made) }
         ensures begun { is_begun self.new ≡ true }
         ensures size { OnOk result (size self.new ≡ size self.old + length bytes.now) }
@@ -72,7 +72,7 @@ pub trait Shelf: Drop {
         requires begun { is_begun self.old ≡ true }
 
         ensures tells { tells self.old ↔ tells self.new }
-        ensures ok { tells self.old → OnOk result ((told self.new).made ≡ finished (told self.old)) }
+        ensures ok { tells self.old → OnOk result ((told self.new).made ≡ files_after_finish (told self.old)) }
         ensures err { tells self.old → OnErr result ((told self.new).made ≡ (told self.old).made) }
         ensures made { OnOk result (is_begun self.new ≡ false) }
         ensures still_begun { OnErr result (is_begun self.new ≡ true) }

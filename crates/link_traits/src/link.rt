@@ -3,7 +3,7 @@ ghost use Rattle.std.specs.Prelude.{◌≡◌, ◌≢◌, ◌<◌, ◌↔◌, �
 ghost use Rattle.honest_server.specs.Exchange.{IsWholeMessage};
 ghost use Rattle.honest_server.specs.Link.{ServedLink, Sends as IsServed, SendsBeside, Receives as TakesServed, IsNoCreate, IsSoundState};
 ghost use Rattle.honest_server.specs.State.{in_session};
-ghost use Rattle.server_model.specs.History.{IsPrefix};
+ghost use Rattle.server_data.specs.History.{IsPrefix};
 ghost use Rattle.link_traits.specs.Cause.{HasCause};
 ghost use Rattle.link_traits.specs.Link.{Told, Sends, Receives, IsWithin};
 
@@ -64,7 +64,7 @@ pub trait Link: Drop {
 
         ensures honest { honest self.old ↔ honest self.new }
         ensures served { honest self.old → honest holder.now → (served self.old).failed ≡ false → SendsBeside (served holder.now).state (served self.old) message.now result (served self.new) }
-        ensures behind { honest self.old → honest holder.now → OnOk result (IsPrefix (served self.old).state.seen (served holder.now).state.seen) }
+        ensures after { honest self.old → honest holder.now → OnOk result (IsPrefix (served self.old).state.seen (served holder.now).state.seen) }
         ensures apart { honest self.old → (honest holder.now → ⊥) → (served self.old).failed ≡ false → IsServed (served self.old) message.now result (served self.new) }
         ensures dead { honest self.old → (served self.old).failed ≡ true → IsErr result × (served self.new ≡ served self.old) }
         ensures tells { tells self.old ↔ tells self.new }

@@ -2,11 +2,11 @@
 ghost use Rattle.std.specs.Prelude.{◌≡◌, ◌<◌, ◌≤◌, ◌+◌, ◌-◌, ◌^◌, ◌↔◌, ℕ, Bool, true, false, Option, Some, IfOk, OnOk, OnErr, min};
 ghost use Rattle.honest_server.specs.Site.{ServedSite, Connects, IsNewLink, IsSettled, StaysHonest, TakesBack};
 ghost use Rattle.link_traits.specs.Cause.{HasCause};
-ghost use Rattle.link_traits.specs.Link.{begun};
-ghost use Rattle.link_traits.specs.Site.{Aim, SiteTold, next_of, connected, returned};
+ghost use Rattle.link_traits.specs.Link.{told_at_start};
+ghost use Rattle.link_traits.specs.Site.{Aim, SiteTold, next_of, told_after_connect, told_after_return};
 
 use crate::link::{Link, LinkFailed};
-use sql_literals::OutOfMemory;
+use plain_data::OutOfMemory;
 
 /// A server that links can be had of.
 pub trait Site {
@@ -65,8 +65,8 @@ pub trait Site {
         ensures others { (link : Self.Link) → own self.old link → own self.new link }
         ensures tells { tells self.old ↔ tells self.new }
         ensures link_tells { tells self.old → IfOk result (λ link. Self.Link.tells link) }
-        ensures begins { tells self.old → IfOk result (λ link. Self.Link.told link ≡ begun (next_of (told self.old).conversations)) }
-        ensures told { tells self.old → told self.new ≡ connected (told self.old) }
+        ensures begins { tells self.old → IfOk result (λ link. Self.Link.told link ≡ told_at_start (next_of (told self.old).conversations)) }
+        ensures told { tells self.old → told self.new ≡ told_after_connect (told self.old) }
         ensures aim { aim_of self.new ≡ aim_of self.old }
         ensures out { OnOk result (out self.new ≡ out self.old + 1) }
         ensures same_out { OnErr result (out self.new ≡ out self.old) }
@@ -85,8 +85,8 @@ pub trait Site {
         ensures others { (link : Self.Link) → own self.old link → own self.new link }
         ensures tells { tells self.old ↔ tells self.new }
         ensures link_tells { tells self.old → IfOk result (λ link. Self.Link.tells link) }
-        ensures begins { tells self.old → IfOk result (λ link. Self.Link.told link ≡ begun (next_of (told self.old).conversations)) }
-        ensures told { tells self.old → told self.new ≡ connected (told self.old) }
+        ensures begins { tells self.old → IfOk result (λ link. Self.Link.told link ≡ told_at_start (next_of (told self.old).conversations)) }
+        ensures told { tells self.old → told self.new ≡ told_after_connect (told self.old) }
         ensures aim { aim_of self.new ≡ aim_of self.old }
         ensures out { OnOk result (out self.new ≡ 1) }
         ensures still_none_out { OnErr result (out self.new ≡ 0) }
@@ -105,7 +105,7 @@ pub trait Site {
         ensures served { honest self.old → Self.Link.honest link → TakesBack (out self.new) (served self.old) (Self.Link.served link).state (served self.new) }
         ensures others { 0 < out self.new → (other : Self.Link) → own self.old other → own self.new other }
         ensures tells { tells self.old ↔ tells self.new }
-        ensures told { tells self.old → told self.new ≡ returned (told self.old) (Self.Link.told link).sent }
+        ensures told { tells self.old → told self.new ≡ told_after_return (told self.old) (Self.Link.told link).sent }
         ensures aim { aim_of self.new ≡ aim_of self.old }
         ensures out { out self.new + 1 ≡ out self.old }
         ensures none_alone { sole_out self.new ≡ false }

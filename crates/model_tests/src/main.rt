@@ -9,7 +9,8 @@ mod words;
 
 use fault::CaseFault;
 use reading::{choice_of, database_of, history_of};
-use server_model::{Choice, Database, agree, escaped_length, replay, select};
+use server_data::{Choice, Database};
+use server_model::{agree, escaped_length, replay, select};
 use std::alloc::Global;
 use std::{fs, io};
 use words::database_words;

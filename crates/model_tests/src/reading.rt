@@ -1,11 +1,12 @@
 // Histories, databases and choices out of the words of a case.
 use crate::fault::CaseFault;
-use object_texts::{Column, ColumnList, Kind};
-use server_model::{
+use object_forms::{Column, ColumnList, Kind};
+use plain_data::{Bytes, Name, NameList};
+use server_data::{
     CellList, Change, ChangeList, Choice, Database, History, Need, NeedList, Object, ObjectList,
     RowList, TableList, TableRows, Transaction,
 };
-use sql_literals::{Bytes, Cell, Name, NameList};
+use sql_cells::Cell;
 use std::alloc::Global;
 
 fn kind_of(word: &str) -> Result<Kind, CaseFault> {

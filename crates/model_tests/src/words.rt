@@ -1,9 +1,9 @@
 // The words of a database.
 use crate::fault::CaseFault;
-use object_texts::Kind;
+use object_forms::Kind;
 use percent_encoding::{CONTROLS, percent_encode};
-use server_model::{CellList, Database, Object, TableRows};
-use sql_literals::Cell;
+use server_data::{CellList, Database, Object, TableRows};
+use sql_cells::Cell;
 use std::alloc::Global;
 
 fn kind_word(kind: Kind) -> &'static str {
@@ -17,7 +17,7 @@ fn kind_word(kind: Kind) -> &'static str {
     }
 }
 
-// A comma behind what stands there.
+// A comma after what stands there.
 fn comma_into(words: &mut String) -> Result<(), CaseFault> {
     if !words.is_empty() {
         words.push_str(", ")?;

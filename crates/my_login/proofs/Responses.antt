@@ -1,14 +1,14 @@
 -- The response, piece by piece.
 use Rattle.std.proofs.Common.{◌≡◌, ℕ, ◌+◌, List, [], ◌∷◌, ◌++◌, length, Option, Some, None, unwrap_or, append_assoc, length-append, refl, ◌∙◌, ap, arith}
 use Rattle.std.specs.Prelude.{replicate}
-use Rattle.my_login.specs.Texts.{native_password}
-use Rattle.my_login.specs.Response.{answer_field, response}
+use Rattle.wire_forms.specs.Texts.{native_password}
+use Rattle.wire_forms.specs.Response.{answer_field, response}
 
 -- what stands before the user
 abbrev pub before_user : List ℕ
 before_user = 0x05 ∷ 0xa2 ∷ 0x08 ∷ 0x00 ∷ 0x00 ∷ 0x00 ∷ 0x00 ∷ 0x04 ∷ 0x2d ∷ replicate 23 0
 
--- what stands behind the answer
+-- what stands after the answer
 abbrev pub plugin : List ℕ
 plugin = native_password ++ 0 ∷ []
 

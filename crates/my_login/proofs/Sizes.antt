@@ -2,7 +2,7 @@
 use Rattle.std.proofs.Common.{◌≡◌, ℕ, ◌≤◌, ◌==◌, not, List, length, unwrap_or, arith}
 use Rattle.std.specs.Prelude.{position}
 use Rattle.std.proofs.lemmas.List.Sums.{prefix_len-le-length}
-use Rattle.my_login.specs.Texts.{text_size}
+use Rattle.wire_forms.specs.Texts.{text_size}
 
 pub size_within : (bytes : List ℕ) → text_size bytes ≤ length bytes
 size_within bytes = prefix_len-le-length (λ byte. not (byte == 0)) bytes

@@ -2,7 +2,7 @@
 use Rattle.std.proofs.Common.{◌≡◌, ℕ, zero, suc, ◌+◌, ◌<◌, ◌≤◌, List, [], ◌∷◌, ◌++◌, length, take, set, get_or, refl, sym, ◌∙◌, ap, arith}
 use Rattle.std.proofs.lemmas.List.{take_all, take_more_set}
 use Rattle.std.specs.Prelude.{bit_xor}
-use Rattle.my_login.specs.Answer.{xor_of}
+use Rattle.wire_forms.specs.Answer.{xor_of}
 
 -- one byte more of each
 pub xor_more : (xs ys : List ℕ) (i : ℕ) → i < length xs → i < length ys → xor_of (take (i + 1) xs) (take (i + 1) ys) ≡ xor_of (take i xs) (take i ys) ++ bit_xor (get_or xs i 0) (get_or ys i 0) ∷ []

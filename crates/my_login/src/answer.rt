@@ -1,7 +1,7 @@
 // The answer to a scramble.
 ghost use Rattle.std.specs.Prelude.{◌≡◌, ◌++◌};
 ghost use Rattle.sha1.specs.Sha1.{sha1};
-ghost use Rattle.my_login.specs.Answer.{xor_of, native_answer};
+ghost use Rattle.wire_forms.specs.Answer.{xor_of, native_answer};
 
 use sha1::Sha1;
 
@@ -16,7 +16,7 @@ pub fn native_answer(password: &[u8], scramble: &[u8; 20]) -> [u8; 20]
     xor_of(&once, &digest_of_both(scramble, &twice))
 }
 
-// The digest of one text behind another.
+// The digest of one text after another.
 fn digest_of_both(first: &[u8], second: &[u8]) -> [u8; 20]
     ensures { result ≡ sha1 (first.now ++ second.now) }
 {

@@ -1,36 +1,25 @@
 // The greeting of a server.
 ghost use Rattle.std.specs.Prelude.{◌≡◌, ◌≤◌, ◌+◌, ◌++◌, length, take, drop, option_copied};
-ghost use Rattle.my_login.specs.Greeting.{capabilities, offers, second_size, are_fields, scramble_of, plugin_name, plugin_of, behind_version, behind_protocol, greeting_of};
+ghost use Rattle.wire_forms.specs.Greeting.{capabilities, offers, second_size, are_fields, scramble_of, plugin_name, plugin_of, after_version, after_protocol, greeting_of};
 
-use crate::fault::LoginFault;
+use crate::payload::LoginMessage;
 use crate::texts::{NATIVE_PASSWORD, text_size, to_zero};
-use result_rows::{Refusal, ShortText};
+use result_rows::refusal_read;
+use wire_forms::{Greeting, LoginFault, ShortText};
 
-/// What a server says first. (MySQL source documentation, `Protocol::HandshakeV10`.)
-#[derive(Clone, Copy)]
-pub struct Greeting {
-    /// The server's version, of which 512 bytes are kept.
-    pub version: ShortText,
-    /// The bytes that [`native_answer`](crate::native_answer) answers.
-    pub scramble: [u8; 20],
-    /// The plugin that the server proposes, of whose name 512 bytes are kept; `mysql_native_password`
-    /// where it has none to choose from.
-    pub plugin: ShortText,
-}
+impl LoginMessage for Greeting {
+    ghost reading = { greeting_of };
 
-impl Greeting {
     /// Reads a server's first message. It is a greeting of protocol version 10 that offers protocol 41
     /// (0x200) and scrambles of twenty bytes (0x8000). `NotProtocol10` exactly where its first byte is
     /// neither 10 nor 255, `Refused` exactly where it is an ERR, and `Garbled` wherever else it is no
     /// such greeting, as where it is empty. Takes no memory. (MySQL source documentation,
     /// `Protocol::HandshakeV10`, `ERR_Packet`.)
-    pub fn read(payload: &[u8]) -> Result<Greeting, LoginFault>
-        ensures { result ≡ greeting_of payload.now }
-    {
+    fn read(payload: &[u8]) -> Result<Greeting, LoginFault> {
         match payload {
             [] => Err(LoginFault::Garbled),
-            [10, rest @ ..] => behind_protocol(rest).ok_or(LoginFault::Garbled),
-            [255, ..] => match Refusal::read(payload) {
+            [10, rest @ ..] => after_protocol(rest).ok_or(LoginFault::Garbled),
+            [255, ..] => match refusal_read(payload) {
                 Some(refusal) => Err(LoginFault::Refused(refusal)),
                 None => Err(LoginFault::Garbled),
             },
@@ -40,16 +29,16 @@ impl Greeting {
 }
 
 // The server's version, its 00, and the other fields.
-fn behind_protocol(bytes: &[u8]) -> Option<Greeting>
-    ensures { result ≡ behind_protocol bytes.now }
+fn after_protocol(bytes: &[u8]) -> Option<Greeting>
+    ensures { result ≡ after_protocol bytes.now }
 {
     let (version, rest) = to_zero(bytes)?;
-    behind_version(version, rest)
+    after_version(version, rest)
 }
 
 // The other fields, of a server of this version.
-fn behind_version(version: &[u8], bytes: &[u8]) -> Option<Greeting>
-    ensures { result ≡ behind_version version.now bytes.now }
+fn after_version(version: &[u8], bytes: &[u8]) -> Option<Greeting>
+    ensures { result ≡ after_version version.now bytes.now }
 {
     if !are_fields(bytes) {
         return None;
@@ -102,7 +91,7 @@ fn scramble_of(bytes: &[u8]) -> [u8; 20]
     scramble
 }
 
-// Writes one text behind the other over all.
+// Writes one text after the other over all.
 fn put_both(all: &mut [u8], first: &[u8], second: &[u8])
     requires room { length first.now + length second.now ≡ length all.old }
 

@@ -4,14 +4,13 @@
 #![tactic(auto)]
 
 mod answer;
-mod fault;
 mod greeting;
+mod payload;
 mod response;
 mod switch;
 mod texts;
 
 pub use answer::native_answer;
-pub use fault::LoginFault;
-pub use greeting::Greeting;
+pub use payload::LoginMessage;
 pub use response::response_into;
-pub use switch::Switch;
+pub use wire_forms::{Greeting, LoginFault, Switch};

@@ -1,6 +1,6 @@
 // The response to a greeting.
 ghost use Rattle.std.specs.Prelude.{◌≡◌, ◌++◌, ◌≤◌, [], ◌+◌, length, vec_len, vec_capacity, option_copied, unwrap_or, IsOk, OnOk, OnErr};
-ghost use Rattle.my_login.specs.Response.{response};
+ghost use Rattle.wire_forms.specs.Response.{response};
 
 use plain_data::OutOfMemory;
 

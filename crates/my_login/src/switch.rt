@@ -1,38 +1,30 @@
 // Requests for another plugin.
 ghost use Rattle.std.specs.Prelude.{◌≡◌};
-ghost use Rattle.my_login.specs.Switch.{new_scramble, switch_to, behind_request, switch_of};
+ghost use Rattle.wire_forms.specs.Switch.{new_scramble, switch_to, after_request, switch_of};
 
-use crate::fault::LoginFault;
+use crate::payload::LoginMessage;
 use crate::texts::{NATIVE_PASSWORD, to_zero};
-use result_rows::ShortText;
+use wire_forms::{LoginFault, ShortText, Switch};
 
-/// A server's request to answer a new scramble with `mysql_native_password`. (MySQL source
-/// documentation, `Protocol::AuthSwitchRequest`.)
-#[derive(Clone, Copy)]
-pub struct Switch {
-    /// The bytes that [`native_answer`](crate::native_answer) answers.
-    pub scramble: [u8; 20],
-}
+impl LoginMessage for Switch {
+    ghost reading = { switch_of };
 
-impl Switch {
     /// Reads a request for another plugin. `PluginUnsupported` exactly where it names another one than
     /// `mysql_native_password`; a lone fe names `mysql_old_password`. `Garbled` exactly where it is no
-    /// request: it doesn't begin with fe, has no 00 behind the name, or its scramble isn't twenty
-    /// bytes, behind which a 00 may stand. Takes no memory. (MySQL source documentation,
+    /// request: it doesn't begin with fe, has no 00 after the name, or its scramble isn't twenty
+    /// bytes, after which a 00 may stand. Takes no memory. (MySQL source documentation,
     /// `Protocol::AuthSwitchRequest`, `Protocol::OldAuthSwitchRequest`.)
-    pub fn read(payload: &[u8]) -> Result<Switch, LoginFault>
-        ensures { result ≡ switch_of payload.now }
-    {
+    fn read(payload: &[u8]) -> Result<Switch, LoginFault> {
         match payload {
-            [0xfe, rest @ ..] => behind_request(rest),
+            [0xfe, rest @ ..] => after_request(rest),
             _ => Err(LoginFault::Garbled),
         }
     }
 }
 
-// What stands behind the first byte.
-fn behind_request(bytes: &[u8]) -> Result<Switch, LoginFault>
-    ensures { result ≡ behind_request bytes.now }
+// What stands after the first byte.
+fn after_request(bytes: &[u8]) -> Result<Switch, LoginFault>
+    ensures { result ≡ after_request bytes.now }
 {
     if bytes.is_empty() {
         return Err(LoginFault::PluginUnsupported(ShortText::of(b"mysql_old_password")));
@@ -43,7 +35,7 @@ fn behind_request(bytes: &[u8]) -> Result<Switch, LoginFault>
     }
 }
 
-// A switch to this plugin, with these bytes behind its name.
+// A switch to this plugin, with these bytes after its name.
 fn switch_to(plugin: &[u8], bytes: &[u8]) -> Result<Switch, LoginFault>
     ensures { result ≡ switch_to plugin.now bytes.now }
 {
@@ -56,7 +48,7 @@ fn switch_to(plugin: &[u8], bytes: &[u8]) -> Result<Switch, LoginFault>
     }
 }
 
-// Twenty bytes, behind which a 00 may stand.
+// Twenty bytes, after which a 00 may stand.
 fn new_scramble(bytes: &[u8]) -> Option<[u8; 20]>
     ensures { result ≡ new_scramble bytes.now }
 {

@@ -1,6 +1,6 @@
 // Texts that end at a 00, and the scrambles' bytes.
 ghost use Rattle.std.specs.Prelude.{◌≡◌, ◌≤◌, ◌+◌, ◌==◌, length, drop, position, option_map};
-ghost use Rattle.my_login.specs.Texts.{text_size, to_zero};
+ghost use Rattle.wire_forms.specs.Texts.{text_size, to_zero};
 
 /// The plugin whose answer to a scramble is computed.
 pub(crate) const NATIVE_PASSWORD: &[u8] = b"mysql_native_password";
@@ -30,7 +30,7 @@ fn rest_of(bytes: &[u8], from: usize) -> &[u8]
     &bytes[from..]
 }
 
-// The bytes up to the first 00, and those behind it.
+// The bytes up to the first 00, and those after it.
 pub(crate) fn to_zero(bytes: &[u8]) -> Option<(&[u8], &[u8])>
     ensures { option_map (λ parts. (parts.0.now, parts.1.now)) result ≡ to_zero bytes.now }
 {

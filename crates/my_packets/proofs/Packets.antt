@@ -1,7 +1,7 @@
 -- The packets of a message: short ones, long ones, and how many bytes they are.
 use Rattle.std.proofs.Common.{◌≡◌, ◌<◌, ◌≤◌, ℕ, ◌+◌, ◌-◌, ◌*◌, ◌%◌, zero, suc, List, [], ◌++◌, length, take, drop, refl, sym, ap, ◌∙◌, arith, append_assoc, length-append, length-drop}
 use Rattle.std.proofs.lemmas.List.{drop-drop, drop_at, take_all, take-append-le, drop-append-le, length-take-le, nil_from_length, append-nil}
-use Rattle.my_packets.specs.Packet.{packet, next_id, id_behind, full_packets, full_count, last_packet, packets, packet_count}
+use Rattle.wire_forms.specs.Packet.{packet, next_id, id_after, full_packets, full_count, last_packet, packets, packet_count}
 
 -- a message with so many full packets in front of its last
 pub by_count : (count id : ℕ) (message : List ℕ) → full_count (length message) ≡ count → packets id message ≡ full_packets count id message ++ last_packet count id message
@@ -33,7 +33,7 @@ long_packets id message long =
     let last : drop (16777215 * suc more) message ≡ drop (16777215 * more) rest = ap (λ (n : ℕ). drop n message) places ∙ sym (drop-drop (16777215 * more) 16777215 message) in
     by_count (suc more) id message counts
     ∙ ap (λ (n : ℕ). (first ++ full_packets more (next_id id) rest) ++ packet n (drop (16777215 * suc more) message)) ids
-    ∙ ap (λ (l : List ℕ). (first ++ full_packets more (next_id id) rest) ++ packet (id_behind more (next_id id)) l) last
+    ∙ ap (λ (l : List ℕ). (first ++ full_packets more (next_id id) rest) ++ packet (id_after more (next_id id)) l) last
     ∙ append_assoc first (full_packets more (next_id id) rest) (last_packet more (next_id id) rest)
     ∙ ap (λ (l : List ℕ). first ++ l) (sym (by_count more (next_id id) rest refl))
 
@@ -72,7 +72,7 @@ full_append (suc count) id payload more fits =
     ∙ ap (λ (l : List ℕ). packet (id % 256) (take 16777215 payload) ++ l) same
 
 -- one more full packet, at the end
-pub full_more : (count id : ℕ) (payload piece : List ℕ) → length payload ≡ 16777215 * count → length piece ≡ 16777215 → full_packets (suc count) id (payload ++ piece) ≡ full_packets count id payload ++ packet (id_behind count id) piece
+pub full_more : (count id : ℕ) (payload piece : List ℕ) → length payload ≡ 16777215 * count → length piece ≡ 16777215 → full_packets (suc count) id (payload ++ piece) ≡ full_packets count id payload ++ packet (id_after count id) piece
 full_more zero id payload piece size one =
     let none : payload ≡ [] = nil_from_length payload size in
     let whole : take 16777215 piece ≡ piece = take_all 16777215 piece (omega arith) in
@@ -84,9 +84,9 @@ full_more (suc count) id payload piece size one =
     let left : length rest ≡ length payload - 16777215 = length-drop 16777215 payload in
     let front : take 16777215 (payload ++ piece) ≡ take 16777215 payload = take-append-le 16777215 payload piece (omega arith) in
     let then : drop 16777215 (payload ++ piece) ≡ rest ++ piece = drop-append-le 16777215 payload piece (omega arith) in
-    let more : full_packets (suc count) (next_id id) (rest ++ piece) ≡ full_packets count (next_id id) rest ++ packet (id_behind count (next_id id)) piece = full_more count (next_id id) rest piece (omega arith) one in
+    let more : full_packets (suc count) (next_id id) (rest ++ piece) ≡ full_packets count (next_id id) rest ++ packet (id_after count (next_id id)) piece = full_more count (next_id id) rest piece (omega arith) one in
     let ids : (id + suc count) % 256 ≡ ((id + 1) % 256 + count) % 256 = omega arith in
-    let joined : (packet (id % 256) (take 16777215 payload) ++ full_packets count (next_id id) rest) ++ packet (id_behind count (next_id id)) piece ≡ packet (id % 256) (take 16777215 payload) ++ (full_packets count (next_id id) rest ++ packet (id_behind count (next_id id)) piece) = append_assoc (packet (id % 256) (take 16777215 payload)) (full_packets count (next_id id) rest) (packet (id_behind count (next_id id)) piece) in
+    let joined : (packet (id % 256) (take 16777215 payload) ++ full_packets count (next_id id) rest) ++ packet (id_after count (next_id id)) piece ≡ packet (id % 256) (take 16777215 payload) ++ (full_packets count (next_id id) rest ++ packet (id_after count (next_id id)) piece) = append_assoc (packet (id % 256) (take 16777215 payload)) (full_packets count (next_id id) rest) (packet (id_after count (next_id id)) piece) in
     ap (λ (l : List ℕ). packet (id % 256) l ++ full_packets (suc count) (next_id id) (drop 16777215 (payload ++ piece))) front
     ∙ ap (λ (l : List ℕ). packet (id % 256) (take 16777215 payload) ++ full_packets (suc count) (next_id id) l) then
     ∙ ap (λ (l : List ℕ). packet (id % 256) (take 16777215 payload) ++ l) more
@@ -94,25 +94,25 @@ full_more (suc count) id payload piece size one =
     ∙ ap (λ (n : ℕ). (packet (id % 256) (take 16777215 payload) ++ full_packets count (next_id id) rest) ++ packet n piece) (sym ids)
 
 -- a writer that has written so much of a message, and what is left of it
-pub written_full : (id : ℕ) (rest payload behind out next all : List ℕ) → id < 256 → 16777215 ≤ length rest → payload ≡ take 16777215 rest → behind ≡ drop 16777215 rest → next ≡ out ++ packet id payload → out ++ packets id rest ≡ all → next ++ packets (next_id id) behind ≡ all
-written_full id rest payload behind out next all byte long payload_is behind_is next_is whole =
+pub written_full : (id : ℕ) (rest payload after out next all : List ℕ) → id < 256 → 16777215 ≤ length rest → payload ≡ take 16777215 rest → after ≡ drop 16777215 rest → next ≡ out ++ packet id payload → out ++ packets id rest ≡ all → next ++ packets (next_id id) after ≡ all
+written_full id rest payload after out next all byte long payload_is after_is next_is whole =
     let same : id % 256 ≡ id = omega arith in
     let parts : packets id rest ≡ packet (id % 256) (take 16777215 rest) ++ packets (next_id id) (drop 16777215 rest) = long_packets id rest long in
-    let joined : (out ++ packet id payload) ++ packets (next_id id) behind ≡ out ++ (packet id payload ++ packets (next_id id) behind) = append_assoc out (packet id payload) (packets (next_id id) behind) in
-    let now : packet id payload ++ packets (next_id id) behind ≡ packets id rest = cc in
-    ap (λ (l : List ℕ). l ++ packets (next_id id) behind) next_is ∙ joined ∙ ap (λ (l : List ℕ). out ++ l) now ∙ whole
+    let joined : (out ++ packet id payload) ++ packets (next_id id) after ≡ out ++ (packet id payload ++ packets (next_id id) after) = append_assoc out (packet id payload) (packets (next_id id) after) in
+    let now : packet id payload ++ packets (next_id id) after ≡ packets id rest = cc in
+    ap (λ (l : List ℕ). l ++ packets (next_id id) after) next_is ∙ joined ∙ ap (λ (l : List ℕ). out ++ l) now ∙ whole
 
 pub written_last : (id : ℕ) (rest out next all : List ℕ) → id < 256 → length rest < 16777215 → next ≡ out ++ packet id rest → out ++ packets id rest ≡ all → next ≡ all
 written_last id rest out next all byte short next_is whole =
     next_is ∙ ap (λ (l : List ℕ). out ++ l) (sym (short_packets id rest byte short)) ∙ whole
 
 -- full packets and a last one are a message
-pub packets_of_parts : (count id : ℕ) (payload piece : List ℕ) → length payload ≡ 16777215 * count → length piece < 16777215 → packets id (payload ++ piece) ≡ full_packets count id payload ++ packet (id_behind count id) piece
+pub packets_of_parts : (count id : ℕ) (payload piece : List ℕ) → length payload ≡ 16777215 * count → length piece < 16777215 → packets id (payload ++ piece) ≡ full_packets count id payload ++ packet (id_after count id) piece
 packets_of_parts count id payload piece size short =
     let all : length (payload ++ piece) ≡ length payload + length piece = length-append payload piece in
     let counts : full_count (length (payload ++ piece)) ≡ count = omega arith in
     let full : full_packets count id (payload ++ piece) ≡ full_packets count id payload = full_append count id payload piece (omega arith) in
     let last : drop (16777215 * count) (payload ++ piece) ≡ piece = drop_at payload piece (16777215 * count) size in
     by_count count id (payload ++ piece) counts
-    ∙ ap (λ (l : List ℕ). l ++ packet (id_behind count id) (drop (16777215 * count) (payload ++ piece))) full
-    ∙ ap (λ (l : List ℕ). full_packets count id payload ++ packet (id_behind count id) l) last
+    ∙ ap (λ (l : List ℕ). l ++ packet (id_after count id) (drop (16777215 * count) (payload ++ piece))) full
+    ∙ ap (λ (l : List ℕ). full_packets count id payload ++ packet (id_after count id) l) last

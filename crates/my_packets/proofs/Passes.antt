@@ -6,7 +6,7 @@ use Rattle.my_packets.proofs.Packets.{packets_length}
 use Rattle.my_packets.specs.Begins.{IsSplit, IsWrong}
 use Rattle.my_packets.specs.Front.{HasMessage, Wants, IsPart}
 use Rattle.my_packets.specs.Joins.{Joins}
-use Rattle.my_packets.specs.Packet.{packets, packet_count}
+use Rattle.wire_forms.specs.Packet.{packets, packet_count}
 use Rattle.my_packets.specs.Steps.{Passes, HandsOut}
 use Rattle.my_packets.specs.Unread.{Unread}
 use Rattle.my_packets.specs.declared.frames.FrameFault.{FrameFault}
@@ -30,8 +30,8 @@ whole_within limit id from size store split inside =
     let message = split.message in
     let size_is : size ≡ length message = split.size_is in
     let packets_are = packets_length id message in
-    let all = length-append (packets id message) split.behind in
-    let bytes : length (drop from store) ≡ length (packets id message ++ split.behind) = ap (λ (l : List ℕ). length l) split.message_is.bytes_are in
+    let all = length-append (packets id message) split.after in
+    let bytes : length (drop from store) ≡ length (packets id message ++ split.after) = ap (λ (l : List ℕ). length l) split.message_is.bytes_are in
     let left = length-drop from store in
     omega arith
 
@@ -40,28 +40,28 @@ pub record Stood (limit id from size : ℕ) (store new : List ℕ) : Type 0 wher
   pub size_is : length (slice_range new (from + 4) (from + 4 + size)) ≡ size
   pub message_is : HasMessage limit id (slice_range new (from + 4) (from + 4 + size)) (drop from store) (drop (from + (size + 4 * packet_count size)) new)
 
-pub stands : (limit id from size : ℕ) (store new : List ℕ) → IsSplit limit id size (drop from store) → ((other : ℕ) (message behind : List ℕ) → drop from store ≡ packets other message ++ behind → size ≡ length message → Joins from message behind new) → Stood limit id from size store new
+pub stands : (limit id from size : ℕ) (store new : List ℕ) → IsSplit limit id size (drop from store) → ((other : ℕ) (message after : List ℕ) → drop from store ≡ packets other message ++ after → size ≡ length message → Joins from message after new) → Stood limit id from size store new
 stands limit id from size store new split joined =
     let message = split.message in
-    let behind = split.behind in
+    let after = split.after in
     let size_is : size ≡ length message = split.size_is in
-    let joins = joined id message behind split.message_is.bytes_are size_is in
+    let joins = joined id message after split.message_is.bytes_are size_is in
     let there : slice_range new (from + 4) (from + 4 + size) ≡ message = ap (λ (n : ℕ). slice_range new (from + 4) (from + 4 + n)) size_is ∙ joins.message_is in
     let place : from + (size + 4 * packet_count size) ≡ from + length message + 4 * packet_count (length message) = omega arith in
-    let rest : drop (from + (size + 4 * packet_count size)) new ≡ behind = ap (λ (n : ℕ). drop n new) place ∙ joins.behind_is in
+    let rest : drop (from + (size + 4 * packet_count size)) new ≡ after = ap (λ (n : ℕ). drop n new) place ∙ joins.after_is in
     let short = split.message_is.short in
     let count : length (slice_range new (from + 4) (from + 4 + size)) ≡ length message = ap (λ (l : List ℕ). length l) there in
     record {
       size_is = count ∙ sym size_is;
       message_is = record {
         short = omega arith;
-        bytes_are = split.message_is.bytes_are ∙ ap (λ (l : List ℕ). packets id l ++ behind) (sym there) ∙ ap (λ (l : List ℕ). packets id (slice_range new (from + 4) (from + 4 + size)) ++ l) (sym rest);
+        bytes_are = split.message_is.bytes_are ∙ ap (λ (l : List ℕ). packets id l ++ after) (sym there) ∙ ap (λ (l : List ℕ). packets id (slice_range new (from + 4) (from + 4 + size)) ++ l) (sym rest);
       };
     }
 
 pub whole_settles : (limit id size : ℕ) (bytes : List ℕ) → IsSplit limit id size bytes → Wants limit id bytes 0
 whole_settles limit id size bytes split = record {
-  settled = λ none. inl (split.message, split.behind, split.message_is);
+  settled = λ none. inl (split.message, split.after, split.message_is);
   part = λ some. absurd (omega arith);
 }
 

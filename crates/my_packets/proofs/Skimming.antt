@@ -8,7 +8,7 @@ use Rattle.my_packets.proofs.Passes.{part_is_wanted, wrong_settles}
 use Rattle.my_packets.proofs.Splits.{add_full, add_last}
 use Rattle.my_packets.specs.Begins.{IsWrong}
 use Rattle.my_packets.specs.Front.{HasMessage, HasFull, HasWrongId, IsTooLong, IsPart, Wants}
-use Rattle.my_packets.specs.Packet.{packet, packet_header, next_id, id_behind, packets, full_packets, missing, HasHeader}
+use Rattle.wire_forms.specs.Packet.{packet, packet_header, next_id, id_after, packets, full_packets, missing, HasHeader}
 use Rattle.my_packets.specs.Skimmed.{Skimmed}
 use Rattle.my_packets.specs.Skims.{Skims, IsAt, IsInHeader, IsInPacket, IsRead, IsBroken, Feeds, wanted, wanted_at, fault_at, fault_of}
 use Rattle.my_packets.specs.declared.frames.FrameFault.{FrameFault}
@@ -16,7 +16,7 @@ use Rattle.my_packets.specs.declared.frames.FrameFault.TheVariants.{BadSequence,
 use Rattle.my_packets.specs.declared.skim.Stage.{Stage}
 use Rattle.my_packets.specs.declared.skim.Stage.TheVariants.{Header, Packet, Whole, Wrong}
 
--- a place that is filled from behind its first bytes
+-- a place that is filled from after its first bytes
 pub filled : (place piece ys : List ℕ) (size count : ℕ) → size ≤ length place → count ≡ min (length piece) (length place - size) → ys ≡ take count piece → take size place ++ ys ≡ take (length place) (take size place ++ piece)
 filled place piece ys size count inside count_is ys_is =
     let front = take size place in
@@ -47,11 +47,11 @@ has_header size id small = record {
 }
 
 -- more bytes at the end
-more_behind : (limit id count : ℕ) (payload bytes behind piece : List ℕ) → HasFull limit id count payload bytes behind → HasFull limit id count payload (bytes ++ piece) (behind ++ piece)
-more_behind limit id count payload bytes behind piece full = record {
+more_after : (limit id count : ℕ) (payload bytes after piece : List ℕ) → HasFull limit id count payload bytes after → HasFull limit id count payload (bytes ++ piece) (after ++ piece)
+more_after limit id count payload bytes after piece full = record {
   size_is = full.size_is;
   short = full.short;
-  bytes_are = ap (λ (l : List ℕ). l ++ piece) full.bytes_are ∙ append_assoc (full_packets count id payload) behind piece;
+  bytes_are = ap (λ (l : List ℕ). l ++ piece) full.bytes_are ∙ append_assoc (full_packets count id payload) after piece;
 }
 
 -- the first bytes of a list that grows
@@ -79,9 +79,9 @@ header_is_part seq limit fed skim at =
     record {
       count = at.count;
       payload = at.payload;
-      behind = skim.header;
+      after = skim.header;
       full = at.full;
-      missing_is = sym (missing_header (limit - length at.payload) (id_behind at.count seq) skim.header less);
+      missing_is = sym (missing_header (limit - length at.payload) (id_after at.count seq) skim.header less);
       some = omega arith;
     }
 
@@ -92,9 +92,9 @@ packet_is_part seq limit size left fed skim at =
     record {
       count = at.count;
       payload = at.payload;
-      behind = packet_header size skim.id ++ at.part;
+      after = packet_header size skim.id ++ at.part;
       full = at.full;
-      missing_is = sym (missing_packet (limit - length at.payload) (id_behind at.count seq) size left at.part (omega arith) (omega arith) at.there) ∙ ap (λ (n : ℕ). missing (limit - length at.payload) (id_behind at.count seq) (packet_header size n ++ at.part)) (sym at.id);
+      missing_is = sym (missing_packet (limit - length at.payload) (id_after at.count seq) size left at.part (omega arith) (omega arith) at.there) ∙ ap (λ (n : ℕ). missing (limit - length at.payload) (id_after at.count seq) (packet_header size n ++ at.part)) (sym at.id);
       some = at.some;
     }
 
@@ -103,9 +103,9 @@ part_is_right : (limit seq more : ℕ) (fed : List ℕ) (fault : FrameFault) →
 part_is_right limit seq more fed (BadSequence found wanted) part wrong = (one_front limit seq fed).wrong_is_whole found wanted more wrong part
 part_is_right limit seq more fed (TooLong size) part wrong = (one_front limit seq fed).long_is_whole size more wrong part
 
-whole_is_right : (limit seq : ℕ) (message fed behind : List ℕ) (fault : FrameFault) → HasMessage limit seq message fed behind → ¬ IsWrong limit seq fed fault
-whole_is_right limit seq message fed behind (BadSequence found wanted) whole wrong = (one_front limit seq fed).message_is_right found wanted message behind whole wrong
-whole_is_right limit seq message fed behind (TooLong size) whole wrong = (one_front limit seq fed).message_is_short size message behind whole wrong
+whole_is_right : (limit seq : ℕ) (message fed after : List ℕ) (fault : FrameFault) → HasMessage limit seq message fed after → ¬ IsWrong limit seq fed fault
+whole_is_right limit seq message fed after (BadSequence found wanted) whole wrong = (one_front limit seq fed).message_is_right found wanted message after whole wrong
+whole_is_right limit seq message fed after (TooLong size) whole wrong = (one_front limit seq fed).message_is_short size message after whole wrong
 
 at_is_right : (seq limit : ℕ) (fed : List ℕ) (skim : Skimmed) (stage : Stage) → IsAt seq limit fed skim stage → fault_at stage ≡ None → (fault : FrameFault) → ¬ IsWrong limit seq fed fault
 at_is_right seq limit fed skim Header at none fault wrong = part_is_right limit seq (4 - length skim.header) fed fault (header_is_part seq limit fed skim at) wrong
@@ -184,7 +184,7 @@ module _ (old : Skimmed) (piece header : List ℕ) (stage : old.stage ≡ Header
   in_header seq limit fed skims = subst (λ (s : Stage). IsAt seq limit fed old s) stage skims.at
 
   full_then : (seq limit : ℕ) (fed : List ℕ) → (at : IsInHeader seq limit fed old) → HasFull limit seq at.count at.payload (fed ++ piece) header
-  full_then seq limit fed at = subst (λ (l : List ℕ). HasFull limit seq at.count at.payload (fed ++ piece) l) (sym header_is) (more_behind limit seq at.count at.payload fed old.header piece at.full)
+  full_then seq limit fed at = subst (λ (l : List ℕ). HasFull limit seq at.count at.payload (fed ++ piece) l) (sym header_is) (more_after limit seq at.count at.payload fed old.header piece at.full)
 
   pub feeds_less : length header < 4 → Feeds old piece (Ok tt) (record old { header = header })
   feeds_less less =
@@ -220,7 +220,7 @@ module _ (old : Skimmed) (piece header : List ℕ) (stage : old.stage ≡ Header
               count = at.count;
               size = size;
               payload = at.payload;
-              behind = packet_header size id;
+              after = packet_header size id;
               full = full_header seq limit fed at;
               header = has_header size id small;
               wanted_is = at.id;
@@ -248,7 +248,7 @@ module _ (old : Skimmed) (piece header : List ℕ) (stage : old.stage ≡ Header
               count = at.count;
               last = size;
               payload = at.payload;
-              behind = packet_header size id;
+              after = packet_header size id;
               full = full_header seq limit fed at;
               header = subst (λ (n : ℕ). HasHeader size n (packet_header size id)) (same ∙ at.id) (has_header size id small);
               size_is = omega arith;
@@ -316,17 +316,17 @@ module _ (old : Skimmed) (piece kept : List ℕ) (size left : ℕ) (stage : old.
       ∙ ap (λ (l : List ℕ). take 1024 l) (append_assoc at.payload at.part piece)
 
   full_part : (seq limit : ℕ) (fed : List ℕ) → (at : IsInPacket seq limit size left fed old) → HasFull limit seq at.count at.payload (fed ++ piece) (packet_header size old.id ++ (at.part ++ piece))
-  full_part seq limit fed at = more_behind limit seq at.count at.payload fed (packet_header size old.id ++ at.part) piece at.full
+  full_part seq limit fed at = more_after limit seq at.count at.payload fed (packet_header size old.id ++ at.part) piece at.full
 
   -- the packet with its last bytes
-  whole_part : (seq limit : ℕ) (fed : List ℕ) → (at : IsInPacket seq limit size left fed old) → left ≡ length piece → packet_header size old.id ++ (at.part ++ piece) ≡ packet (id_behind at.count seq) (at.part ++ piece) ++ []
+  whole_part : (seq limit : ℕ) (fed : List ℕ) → (at : IsInPacket seq limit size left fed old) → left ≡ length piece → packet_header size old.id ++ (at.part ++ piece) ≡ packet (id_after at.count seq) (at.part ++ piece) ++ []
   whole_part seq limit fed at last =
       let there = at.there in
       let all = length-append at.part piece in
       let size_is : size ≡ length (at.part ++ piece) = omega arith in
       ap (λ (n : ℕ). packet_header n old.id ++ (at.part ++ piece)) size_is
       ∙ ap (λ (n : ℕ). packet_header (length (at.part ++ piece)) n ++ (at.part ++ piece)) at.id
-      ∙ sym (append-nil (packet (id_behind at.count seq) (at.part ++ piece)))
+      ∙ sym (append-nil (packet (id_after at.count seq) (at.part ++ piece)))
 
   pub feeds_part : (missing : ℕ) → missing ≡ left - length piece → 0 < missing → Feeds old piece (Ok tt) (record old { kept = kept; stage = Packet size missing })
   feeds_part missing missing_is some =
@@ -408,8 +408,8 @@ pub wants_of : (seq limit : ℕ) (fed : List ℕ) (skim : Skimmed) → Skims seq
 wants_of seq limit fed skim skims = wants_at seq limit fed skim skim.stage skims.at
 
 -- with a higher limit, bytes that are missing stay so
-full_grows : (limit more id count : ℕ) (payload bytes behind : List ℕ) → limit ≤ more → HasFull limit id count payload bytes behind → HasFull more id count payload bytes behind
-full_grows limit more id count payload bytes behind grows full =
+full_grows : (limit more id count : ℕ) (payload bytes after : List ℕ) → limit ≤ more → HasFull limit id count payload bytes after → HasFull more id count payload bytes after
+full_grows limit more id count payload bytes after grows full =
     let short = full.short in
     record { size_is = full.size_is; short = omega arith; bytes_are = full.bytes_are }
 
@@ -427,14 +427,14 @@ part_grows : (limit more id count : ℕ) (bytes : List ℕ) → limit ≤ more �
 part_grows limit more id count bytes grows part =
     let some = part.some in
     let missing_is = part.missing_is in
-    let behind = part.behind in
-    let next = id_behind part.count id in
+    let after = part.after in
+    let next = id_after part.count id in
     record {
       count = part.count;
       payload = part.payload;
-      behind = behind;
-      full = full_grows limit more id part.count part.payload bytes behind grows part.full;
-      missing_is = missing_is ∙ sym (missing_grows (limit - length part.payload) (more - length part.payload) next behind (omega arith) (omega arith));
+      after = after;
+      full = full_grows limit more id part.count part.payload bytes after grows part.full;
+      missing_is = missing_is ∙ sym (missing_grows (limit - length part.payload) (more - length part.payload) next after (omega arith) (omega arith));
       some = some;
     }
 
@@ -442,17 +442,17 @@ part_grows limit more id count bytes grows part =
 missing_all : (room id low middle high : ℕ) (rest : List ℕ) → length rest ≡ 0 → low + 256 * middle + 65536 * high ≤ room → missing room id (low ∷ middle ∷ high ∷ id ∷ rest) ≡ low + 256 * middle + 65536 * high
 missing_all room id low middle high rest none fits = grind (arith, nat_tests)
 
--- less than a full packet stands behind a header
+-- less than a full packet stands after a header
 no_full : (limit id count : ℕ) (header : List ℕ) → length header ≡ 4 → ¬ FullHere limit id count header
 no_full limit id count header ends full =
     let there = full.there in
-    let size : length header ≡ length (255 ∷ 255 ∷ 255 ∷ id_behind count id ∷ full.rest) = ap (λ (l : List ℕ). length l) full.bytes_are in
+    let size : length header ≡ length (255 ∷ 255 ∷ 255 ∷ id_after count id ∷ full.rest) = ap (λ (l : List ℕ). length l) full.bytes_are in
     omega arith
 
 past_is_part : (limit seq size : ℕ) (fed : List ℕ) (broken : IsBroken seq limit (TooLong size) fed) → IsPart size seq (size - length broken.payload) fed
 past_is_part limit seq size fed broken =
     let why : IsTooLong limit seq size fed = broken.why in
-    let at = one_place limit seq why.count broken.count why.payload broken.payload fed why.behind broken.header why.full broken.full (long_ends limit seq size fed why) (no_full limit seq broken.count broken.header broken.ends) in
+    let at = one_place limit seq why.count broken.count why.payload broken.payload fed why.after broken.header why.full broken.full (long_ends limit seq size fed why) (no_full limit seq broken.count broken.header broken.ends) in
     let counts = at.0 in
     let header = why.header in
     let payload_is = why.full.size_is in
@@ -462,16 +462,16 @@ past_is_part limit seq size fed broken =
     let more = why.more in
     let short = why.full.short in
     let ends = broken.ends in
-    let same : length why.behind ≡ length broken.header = ap (λ (l : List ℕ). length l) at.1 in
-    let parts : length why.behind ≡ length (header.low ∷ header.middle ∷ header.high ∷ id_behind why.count seq ∷ header.rest) = ap (λ (l : List ℕ). length l) header.bytes_are in
+    let same : length why.after ≡ length broken.header = ap (λ (l : List ℕ). length l) at.1 in
+    let parts : length why.after ≡ length (header.low ∷ header.middle ∷ header.high ∷ id_after why.count seq ∷ header.rest) = ap (λ (l : List ℕ). length l) header.bytes_are in
     let none : length header.rest ≡ 0 = omega arith in
-    let all = missing_all (size - length why.payload) (id_behind why.count seq) header.low header.middle header.high header.rest none (omega arith) in
-    let there = ap (λ (l : List ℕ). missing (size - length why.payload) (id_behind why.count seq) l) header.bytes_are in
+    let all = missing_all (size - length why.payload) (id_after why.count seq) header.low header.middle header.high header.rest none (omega arith) in
+    let there = ap (λ (l : List ℕ). missing (size - length why.payload) (id_after why.count seq) l) header.bytes_are in
     record {
       count = why.count;
       payload = why.payload;
-      behind = why.behind;
-      full = full_grows limit size seq why.count why.payload fed why.behind (omega arith) why.full;
+      after = why.after;
+      full = full_grows limit size seq why.count why.payload fed why.after (omega arith) why.full;
       missing_is = omega arith;
       some = omega arith;
     }
@@ -489,8 +489,8 @@ no_wrong_id seq limit found wanted fed message wrong fed_is =
       count = wrong.count;
       size = wrong.size;
       payload = wrong.payload;
-      behind = wrong.behind;
-      full = full_grows limit room seq wrong.count wrong.payload fed wrong.behind (omega arith) wrong.full;
+      after = wrong.after;
+      full = full_grows limit room seq wrong.count wrong.payload fed wrong.after (omega arith) wrong.full;
       header = wrong.header;
       wanted_is = wrong.wanted_is;
       other = wrong.other;

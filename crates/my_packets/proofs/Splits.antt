@@ -7,7 +7,7 @@ use Rattle.my_packets.specs.Front.{HasMessage, HasFull, HasWrongId, IsTooLong, I
 use Rattle.my_packets.specs.declared.frames.FrameFault.{FrameFault}
 use Rattle.my_packets.specs.declared.frames.FrameFault.TheVariants.{BadSequence, TooLong}
 use Rattle.my_packets.specs.declared.frames.Front.TheVariants.{Wrong}
-use Rattle.my_packets.specs.Packet.{packet, next_id, id_behind, full_packets, missing, HasHeader}
+use Rattle.wire_forms.specs.Packet.{packet, next_id, id_after, full_packets, missing, HasHeader}
 
 pub packet_of_other : (bytes : List ℕ) (id : ℕ) → 4 ≤ length bytes → get_or bytes 3 0 ≢ id → IsPacketOfOther id (get_or bytes 3 0) id bytes
 packet_of_other [] id long other = absurd (omega arith)
@@ -17,27 +17,27 @@ packet_of_other (low ∷ middle ∷ high ∷ []) id long other = absurd (omega a
 packet_of_other (low ∷ middle ∷ high ∷ found ∷ rest) id long other =
     record { size = _; header = record { low = low; middle = middle; high = high; rest = rest; bytes_are = refl; size_is = refl }; wanted_is = refl; other = other }
 
--- behind full packets comes another one
-pub add_full : (limit id count : ℕ) (payload bytes behind piece rest : List ℕ) → HasFull limit id count payload bytes behind → behind ≡ packet (id_behind count id) piece ++ rest → length piece ≡ 16777215 → length payload + 16777215 ≤ limit → HasFull limit id (suc count) (payload ++ piece) bytes rest
-add_full limit id count payload bytes behind piece rest full behind_is size fits =
+-- after full packets comes another one
+pub add_full : (limit id count : ℕ) (payload bytes after piece rest : List ℕ) → HasFull limit id count payload bytes after → after ≡ packet (id_after count id) piece ++ rest → length piece ≡ 16777215 → length payload + 16777215 ≤ limit → HasFull limit id (suc count) (payload ++ piece) bytes rest
+add_full limit id count payload bytes after piece rest full after_is size fits =
     let all : length (payload ++ piece) ≡ length payload + length piece = length-append payload piece in
     let before : length payload ≡ 16777215 * count = full.size_is in
-    let joined : (full_packets count id payload ++ packet (id_behind count id) piece) ++ rest ≡ full_packets count id payload ++ (packet (id_behind count id) piece ++ rest) = append_assoc (full_packets count id payload) (packet (id_behind count id) piece) rest in
+    let joined : (full_packets count id payload ++ packet (id_after count id) piece) ++ rest ≡ full_packets count id payload ++ (packet (id_after count id) piece ++ rest) = append_assoc (full_packets count id payload) (packet (id_after count id) piece) rest in
     record {
       size_is = omega arith;
       short = omega arith;
-      bytes_are = full.bytes_are ∙ ap (λ (l : List ℕ). full_packets count id payload ++ l) behind_is ∙ sym joined ∙ ap (λ (l : List ℕ). l ++ rest) (sym (full_more count id payload piece before size));
+      bytes_are = full.bytes_are ∙ ap (λ (l : List ℕ). full_packets count id payload ++ l) after_is ∙ sym joined ∙ ap (λ (l : List ℕ). l ++ rest) (sym (full_more count id payload piece before size));
     }
 
--- behind full packets comes the last
-pub add_last : (limit id count : ℕ) (payload bytes behind piece rest : List ℕ) → HasFull limit id count payload bytes behind → behind ≡ packet (id_behind count id) piece ++ rest → length piece < 16777215 → length payload + length piece ≤ limit → HasMessage limit id (payload ++ piece) bytes rest
-add_last limit id count payload bytes behind piece rest full behind_is short fits =
+-- after full packets comes the last
+pub add_last : (limit id count : ℕ) (payload bytes after piece rest : List ℕ) → HasFull limit id count payload bytes after → after ≡ packet (id_after count id) piece ++ rest → length piece < 16777215 → length payload + length piece ≤ limit → HasMessage limit id (payload ++ piece) bytes rest
+add_last limit id count payload bytes after piece rest full after_is short fits =
     let all : length (payload ++ piece) ≡ length payload + length piece = length-append payload piece in
     let before : length payload ≡ 16777215 * count = full.size_is in
-    let joined : (full_packets count id payload ++ packet (id_behind count id) piece) ++ rest ≡ full_packets count id payload ++ (packet (id_behind count id) piece ++ rest) = append_assoc (full_packets count id payload) (packet (id_behind count id) piece) rest in
+    let joined : (full_packets count id payload ++ packet (id_after count id) piece) ++ rest ≡ full_packets count id payload ++ (packet (id_after count id) piece ++ rest) = append_assoc (full_packets count id payload) (packet (id_after count id) piece) rest in
     record {
       short = omega arith;
-      bytes_are = full.bytes_are ∙ ap (λ (l : List ℕ). full_packets count id payload ++ l) behind_is ∙ sym joined ∙ ap (λ (l : List ℕ). l ++ rest) (sym (packets_of_parts count id payload piece before short));
+      bytes_are = full.bytes_are ∙ ap (λ (l : List ℕ). full_packets count id payload ++ l) after_is ∙ sym joined ∙ ap (λ (l : List ℕ). l ++ rest) (sym (packets_of_parts count id payload piece before short));
     }
 
 -- full packets were passed: so many payload bytes are before what follows, where this id comes next
@@ -47,7 +47,7 @@ pub record Passed (limit first before id : ℕ) (bytes rest : List ℕ) : Type 0
   pub full : HasFull limit first count payload bytes rest
   pub within : before ≤ limit
   pub before_is : before ≡ length payload
-  pub id_is : id ≡ id_behind count first
+  pub id_is : id ≡ id_after count first
 
 pub passed_none : (limit first : ℕ) (bytes : List ℕ) → first < 256 → Passed limit first 0 first bytes bytes
 passed_none limit first bytes byte = record {
@@ -74,7 +74,7 @@ module _ (limit first before id room : ℕ) (bytes rest : List ℕ) (passed : Pa
       let before_is = passed.before_is in
       record {
         message = payload ++ piece;
-        behind = drop size (drop 4 rest);
+        after = drop size (drop 4 rest);
         message_is = add_last limit first passed.count payload bytes rest piece (drop size (drop 4 rest)) passed.full (split.parts ∙ ap (λ (n : ℕ). packet n piece ++ drop size (drop 4 rest)) passed.id_is) (omega arith) (omega arith);
         size_is = omega arith;
       }
@@ -91,11 +91,11 @@ module _ (limit first before id room : ℕ) (bytes rest : List ℕ) (passed : Pa
       let piece = take size (drop 4 rest) in
       let one : length piece ≡ size = length-take-le size (drop 4 rest) split.there in
       let all : length (payload ++ piece) ≡ length payload + length piece = length-append payload piece in
-      let behind : drop size (drop 4 rest) ≡ next = ap (λ (n : ℕ). drop n (drop 4 rest)) same ∙ drop-drop 16777215 4 rest ∙ sym next_is in
+      let after : drop size (drop 4 rest) ≡ next = ap (λ (n : ℕ). drop n (drop 4 rest)) same ∙ drop-drop 16777215 4 rest ∙ sym next_is in
       record {
         count = suc passed.count;
         payload = payload ++ piece;
-        full = add_full limit first passed.count payload bytes rest piece next passed.full (split.parts ∙ ap (λ (n : ℕ). packet n piece ++ drop size (drop 4 rest)) id_is ∙ ap (λ (l : List ℕ). packet (id_behind passed.count first) piece ++ l) behind) (omega arith) (omega arith);
+        full = add_full limit first passed.count payload bytes rest piece next passed.full (split.parts ∙ ap (λ (n : ℕ). packet n piece ++ drop size (drop 4 rest)) id_is ∙ ap (λ (l : List ℕ). packet (id_after passed.count first) piece ++ l) after) (omega arith) (omega arith);
         within = omega arith;
         before_is = omega arith;
         id_is = omega arith;
@@ -111,7 +111,7 @@ module _ (limit first before id room : ℕ) (bytes rest : List ℕ) (passed : Pa
   passed_part more part = record {
     count = passed.count;
     payload = passed.payload;
-    behind = rest;
+    after = rest;
     full = passed.full;
     missing_is = part.missing_is ∙ ap (λ (n : ℕ). missing n id rest) (room_is ∙ ap (λ (n : ℕ). limit - n) passed.before_is) ∙ ap (λ (n : ℕ). missing (limit - length passed.payload) n rest) passed.id_is;
     some = part.some;
@@ -122,7 +122,7 @@ module _ (limit first before id room : ℕ) (bytes rest : List ℕ) (passed : Pa
     count = passed.count;
     size = other.size;
     payload = passed.payload;
-    behind = rest;
+    after = rest;
     full = passed.full;
     header = other.header;
     wanted_is = other.wanted_is ∙ passed.id_is;
@@ -138,7 +138,7 @@ module _ (limit first before id room : ℕ) (bytes rest : List ℕ) (passed : Pa
         count = passed.count;
         last = size;
         payload = passed.payload;
-        behind = rest;
+        after = rest;
         full = passed.full;
         header = subst (λ (n : ℕ). HasHeader size n rest) passed.id_is past.header;
         size_is = omega arith;

@@ -1,7 +1,7 @@
 -- What a reader finds at the front of a stream.
 use Rattle.std.specs.Prelude.{ℕ, ◌≡◌, ◌≢◌, ◌<◌, ◌≤◌, List, ◌++◌, length, take, drop}
 use Rattle.my_packets.specs.Front.{HasMessage, HasWrongId, IsTooLong, IsPart}
-use Rattle.my_packets.specs.Packet.{packet, full_size, HasHeader, missing}
+use Rattle.wire_forms.specs.Packet.{packet, full_size, HasHeader, missing}
 use Rattle.my_packets.specs.declared.frames.FrameFault.{FrameFault}
 use Rattle.my_packets.specs.declared.frames.FrameFault.TheVariants.{BadSequence, TooLong}
 use Rattle.my_packets.specs.declared.frames.Front.{Front}
@@ -10,8 +10,8 @@ use Rattle.my_packets.specs.declared.frames.Front.TheVariants.{Whole, Part, Wron
 -- the bytes begin with a whole message of so many bytes, without its headers
 pub record IsSplit (limit id size : ℕ) (bytes : List ℕ) : Type 0 where
   pub message : List ℕ
-  pub behind : List ℕ
-  pub message_is : HasMessage limit id message bytes behind
+  pub after : List ℕ
+  pub message_is : HasMessage limit id message bytes after
   pub size_is : size ≡ length message
 
 -- why the bytes hold no further message

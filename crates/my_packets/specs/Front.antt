@@ -1,27 +1,27 @@
 -- What the bytes of a stream begin with, where the next message begins with this sequence id.
 use Rattle.std.specs.Prelude.{ℕ, ◌≡◌, ◌≢◌, ◌<◌, ◌≤◌, ◌+◌, ◌-◌, ◌*◌, ◌⊎◌, List, ◌++◌, length}
-use Rattle.my_packets.specs.Packet.{packets, full_packets, full_size, id_behind, HasHeader, missing}
+use Rattle.wire_forms.specs.Packet.{packets, full_packets, full_size, id_after, HasHeader, missing}
 
--- the bytes begin with a whole message within the limit, and these are behind it
-pub record HasMessage (limit id : ℕ) (message bytes behind : List ℕ) : Type 0 where
+-- the bytes begin with a whole message within the limit, and these are after it
+pub record HasMessage (limit id : ℕ) (message bytes after : List ℕ) : Type 0 where
   pub short : length message ≤ limit
-  pub bytes_are : bytes ≡ packets id message ++ behind
+  pub bytes_are : bytes ≡ packets id message ++ after
 
--- the bytes begin with so many full packets of a message, within the limit, and these are behind them
-pub record HasFull (limit id count : ℕ) (payload bytes behind : List ℕ) : Type 0 where
+-- the bytes begin with so many full packets of a message, within the limit, and these are after them
+pub record HasFull (limit id count : ℕ) (payload bytes after : List ℕ) : Type 0 where
   pub size_is : length payload ≡ full_size * count
   pub short : length payload ≤ limit
-  pub bytes_are : bytes ≡ full_packets count id payload ++ behind
+  pub bytes_are : bytes ≡ full_packets count id payload ++ after
 
 -- the first packet that is wrong has another sequence id than it should have
 pub record HasWrongId (limit id found wanted : ℕ) (bytes : List ℕ) : Type 0 where
   pub count : ℕ
   pub size : ℕ
   pub payload : List ℕ
-  pub behind : List ℕ
-  pub full : HasFull limit id count payload bytes behind
-  pub header : HasHeader size found behind
-  pub wanted_is : wanted ≡ id_behind count id
+  pub after : List ℕ
+  pub full : HasFull limit id count payload bytes after
+  pub header : HasHeader size found after
+  pub wanted_is : wanted ≡ id_after count id
   pub other : found ≢ wanted
 
 -- the first packet that is wrong has the right sequence id, and with it so many bytes are announced, more than the limit
@@ -29,9 +29,9 @@ pub record IsTooLong (limit id size : ℕ) (bytes : List ℕ) : Type 0 where
   pub count : ℕ
   pub last : ℕ
   pub payload : List ℕ
-  pub behind : List ℕ
-  pub full : HasFull limit id count payload bytes behind
-  pub header : HasHeader last (id_behind count id) behind
+  pub after : List ℕ
+  pub full : HasFull limit id count payload bytes after
+  pub header : HasHeader last (id_after count id) after
   pub size_is : size ≡ length payload + last
   pub more : limit < size
 
@@ -39,15 +39,15 @@ pub record IsTooLong (limit id size : ℕ) (bytes : List ℕ) : Type 0 where
 pub record IsPart (limit id more : ℕ) (bytes : List ℕ) : Type 0 where
   pub count : ℕ
   pub payload : List ℕ
-  pub behind : List ℕ
-  pub full : HasFull limit id count payload bytes behind
-  pub missing_is : more ≡ missing (limit - length payload) (id_behind count id) behind
+  pub after : List ℕ
+  pub full : HasFull limit id count payload bytes after
+  pub missing_is : more ≡ missing (limit - length payload) (id_after count id) after
   pub some : 0 < more
 
 -- a message is whole or wrong
 abbrev pub IsSettled : ℕ → ℕ → List ℕ → Type 0
 IsSettled limit id bytes =
-    ((message : List ℕ) × (behind : List ℕ) × HasMessage limit id message bytes behind)
+    ((message : List ℕ) × (after : List ℕ) × HasMessage limit id message bytes after)
     ⊎ (((found : ℕ) × (wanted : ℕ) × HasWrongId limit id found wanted bytes) ⊎ ((size : ℕ) × IsTooLong limit id size bytes))
 
 -- how many bytes are wanted: 0 where a message is whole or wrong, else those that are missing

@@ -1,14 +1,14 @@
 -- A message whose bytes stand together in a store of received bytes.
 use Rattle.std.specs.Prelude.{ℕ, ◌≡◌, ◌+◌, ◌*◌, List, length, take, drop, slice_range}
-use Rattle.my_packets.specs.Packet.{packet_count}
+use Rattle.wire_forms.specs.Packet.{packet_count}
 
--- the message whose packets begin at `from` stands behind its first header, and what follows its packets stands where it stood
-pub record Joins (from : ℕ) (message behind store : List ℕ) : Type 0 where
+-- the message whose packets begin at `from` stands after its first header, and what follows its packets stands where it stood
+pub record Joins (from : ℕ) (message after store : List ℕ) : Type 0 where
   pub message_is : slice_range store (from + 4) (from + 4 + length message) ≡ message
-  pub behind_is : drop (from + length message + 4 * packet_count (length message)) store ≡ behind
+  pub after_is : drop (from + length message + 4 * packet_count (length message)) store ≡ after
 
 -- the payload of the packets at `end` stands from there on, and what is before it and what follows its packets as it was
-pub record IsClosed (end : ℕ) (message behind old new : List ℕ) : Type 0 where
+pub record IsClosed (end : ℕ) (message after old new : List ℕ) : Type 0 where
   pub front_is : take end new ≡ take end old
   pub message_is : slice_range new end (end + length message) ≡ message
-  pub behind_is : drop (end + length message + 4 * packet_count (length message)) new ≡ behind
+  pub after_is : drop (end + length message + 4 * packet_count (length message)) new ≡ after

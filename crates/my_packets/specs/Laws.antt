@@ -1,8 +1,8 @@
 -- What follows from the definitions of length-encoded integers and packets.
 use Rattle.std.specs.Prelude.{ℕ, ◌≡◌, ◌<◌, ◌^◌, List, ◌++◌, length, Some}
 use Rattle.my_packets.specs.Front.{HasMessage, HasWrongId, IsTooLong, IsPart}
-use Rattle.my_packets.specs.Lenenc.{lenenc, lenenc_of}
-use Rattle.my_packets.specs.Packet.{packets}
+use Rattle.wire_forms.specs.Lenenc.{lenenc, lenenc_of}
+use Rattle.wire_forms.specs.Packet.{packets}
 
 -- the shortest spelling of a number, whatever follows it, is read as that number
 abbrev pub LenencIsReadBack : Type 0
@@ -14,9 +14,9 @@ PacketsArePrefixFree = (id : ℕ) (a b x y : List ℕ) → packets id a ++ x ≡
 
 -- of a whole message, a packet of another id, one past the limit, and missing bytes, no two at once; and of each, one
 pub record HasOneFront (limit id : ℕ) (bytes : List ℕ) : Type 0 where
-  pub message_is_right : (found wanted : ℕ) (message behind : List ℕ) → HasMessage limit id message bytes behind → ¬ HasWrongId limit id found wanted bytes
-  pub message_is_short : (size : ℕ) (message behind : List ℕ) → HasMessage limit id message bytes behind → ¬ IsTooLong limit id size bytes
-  pub message_is_whole : (more : ℕ) (message behind : List ℕ) → HasMessage limit id message bytes behind → ¬ IsPart limit id more bytes
+  pub message_is_right : (found wanted : ℕ) (message after : List ℕ) → HasMessage limit id message bytes after → ¬ HasWrongId limit id found wanted bytes
+  pub message_is_short : (size : ℕ) (message after : List ℕ) → HasMessage limit id message bytes after → ¬ IsTooLong limit id size bytes
+  pub message_is_whole : (more : ℕ) (message after : List ℕ) → HasMessage limit id message bytes after → ¬ IsPart limit id more bytes
   pub wrong_is_not_long : (found wanted size : ℕ) → HasWrongId limit id found wanted bytes → ¬ IsTooLong limit id size bytes
   pub wrong_is_whole : (found wanted more : ℕ) → HasWrongId limit id found wanted bytes → ¬ IsPart limit id more bytes
   pub long_is_whole : (size more : ℕ) → IsTooLong limit id size bytes → ¬ IsPart limit id more bytes

@@ -2,8 +2,6 @@ pub mod Begins
 pub mod Front
 pub mod Joins
 pub mod Laws
-pub mod Lenenc
-pub mod Packet
 pub mod Skimmed
 pub mod Skims
 pub mod Steps

@@ -2,7 +2,7 @@
 use Rattle.std.specs.Prelude.{ℕ, ◌≡◌, ◌<◌, ◌≤◌, ◌+◌, ◌-◌, List, [], ◌++◌, length, take, Option, Some, None, Result, Err, MatchResult, OnOk, OnErr, IfErr}
 use Rattle.my_packets.specs.Begins.{IsWrong}
 use Rattle.my_packets.specs.Front.{HasFull, HasMessage}
-use Rattle.my_packets.specs.Packet.{packet_header, full_size, id_behind}
+use Rattle.wire_forms.specs.Packet.{packet_header, full_size, id_after}
 use Rattle.my_packets.specs.Skimmed.{Skimmed}
 use Rattle.my_packets.specs.declared.frames.FrameFault.{FrameFault}
 use Rattle.my_packets.specs.declared.skim.Stage.{Stage}
@@ -16,7 +16,7 @@ pub record IsInHeader (seq limit : ℕ) (fed : List ℕ) (skim : Skimmed) : Type
   pub less : length skim.header < 4
   pub kept : skim.kept ≡ take 1024 payload
   pub total : skim.total ≡ length payload
-  pub id : skim.id ≡ id_behind count seq
+  pub id : skim.id ≡ id_after count seq
 
 -- full packets, the header of a packet of so many payload bytes, and all but so many of these
 pub record IsInPacket (seq limit size left : ℕ) (fed : List ℕ) (skim : Skimmed) : Type 0 where
@@ -30,7 +30,7 @@ pub record IsInPacket (seq limit size left : ℕ) (fed : List ℕ) (skim : Skimm
   pub some : 0 < left
   pub kept : skim.kept ≡ take 1024 (payload ++ part)
   pub total : skim.total ≡ length payload + size
-  pub id : skim.id ≡ id_behind count seq
+  pub id : skim.id ≡ id_after count seq
 
 -- a whole message, and no more
 pub record IsRead (seq limit : ℕ) (fed : List ℕ) (skim : Skimmed) : Type 0 where

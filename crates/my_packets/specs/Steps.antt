@@ -2,7 +2,7 @@
 use Rattle.std.specs.Prelude.{ℕ, ◌≡◌, ◌+◌, ◌*◌, Bool, true, false, length, Result, Ok, Err, Option, Some, None}
 use Rattle.my_packets.specs.Begins.{IsWrong}
 use Rattle.my_packets.specs.Front.{HasMessage, IsPart}
-use Rattle.my_packets.specs.Packet.{id_behind, packet_count}
+use Rattle.wire_forms.specs.Packet.{id_after, packet_count}
 use Rattle.my_packets.specs.Unread.{Unread}
 use Rattle.my_packets.specs.declared.frames.FrameFault.{FrameFault}
 use Rattle.my_packets.specs.declared.frames.Message.{Message}
@@ -12,7 +12,7 @@ pub record Passes (old new : Unread) : Type 0 where
   pub message : HasMessage old.limit old.id new.message old.bytes new.bytes
   pub began : new.began ≡ old.place
   pub place : new.place ≡ old.place + 4 * packet_count (length new.message) + length new.message
-  pub id : new.id ≡ id_behind (packet_count (length new.message)) old.id
+  pub id : new.id ≡ id_after (packet_count (length new.message)) old.id
   pub limit : new.limit ≡ old.limit
 
 -- the bytes are less than a message

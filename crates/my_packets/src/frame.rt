@@ -1,6 +1,6 @@
 // The packets of a message.
 ghost use Rattle.std.specs.Prelude.{◌≡◌, ◌+◌, ◌<◌, ◌≤◌, ◌++◌, length, vec_len, vec_capacity, IfOk, IsOk, OnOk, OnErr};
-ghost use Rattle.my_packets.specs.Packet.{packet, packet_header, packet_count, packets, id_behind};
+ghost use Rattle.wire_forms.specs.Packet.{packet, packet_header, packet_count, packets, id_after};
 
 use plain_data::OutOfMemory;
 
@@ -18,22 +18,22 @@ pub fn header(length: u32, seq: u8) -> [u8; 4]
     header_of(length as usize, seq)
 }
 
-/// Appends the packets of a message, the first with this sequence id, and answers the id behind the
+/// Appends the packets of a message, the first with this sequence id, and answers the id after the
 /// last. A refusal, for want of memory, leaves `out` as it was.
 pub fn frame_into(message: &[u8], seq: u8, out: &mut Vec<u8>) -> Result<u8, OutOfMemory>
     requires within { length message.now ≤ 67108864 }
 
     ensures ok { OnOk result (out.new.items ≡ out.old.items ++ packets seq message.now) }
-    ensures next { IfOk result (λ next. next ≡ id_behind (packet_count (length message.now)) seq) }
+    ensures next { IfOk result (λ next. next ≡ id_after (packet_count (length message.now)) seq) }
     ensures err { OnErr result (out.new.items ≡ out.old.items) }
 {
     out.reserve(message.len() + 4 * (message.len() / FULL_SIZE + 1))?;
     let mut rest = message;
     let mut id = seq;
     'full_packets: while FULL_SIZE <= rest.len() {
-        let (payload, behind) = rest.split_at(FULL_SIZE);
+        let (payload, after) = rest.split_at(FULL_SIZE);
         packet_into(payload, id, out)?;
-        rest = behind;
+        rest = after;
         id = id.wrapping_add(1);
     }
     packet_into(rest, id, out)?;

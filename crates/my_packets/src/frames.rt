@@ -5,7 +5,7 @@ ghost use Rattle.std.specs.Io.BufRead.{Rests};
 ghost use Rattle.my_packets.specs.Begins.{Begins, BeginsPacket};
 ghost use Rattle.my_packets.specs.Front.{Wants};
 ghost use Rattle.my_packets.specs.Joins.{Joins, IsClosed};
-ghost use Rattle.my_packets.specs.Packet.{packet_count, packets};
+ghost use Rattle.wire_forms.specs.Packet.{packet_count, packets};
 ghost use Rattle.my_packets.specs.Steps.{Steps, Shows, HandsOut};
 
 use crate::frame::FULL_SIZE;
@@ -52,7 +52,7 @@ enum Front {
 #[derive(Drop)]
 pub struct Frames {
     store: Vec<u8>,
-    // The message read last is from `start` to `end`, and what is unread is behind `from`.
+    // The message read last is from `start` to `end`, and what is unread is after `from`.
     start: usize,
     end: usize,
     from: usize,
@@ -128,8 +128,8 @@ fn front_of_full(bytes: &[u8], id: u8, limit: u32) -> Front
                 if size < FULL_SIZE {
                     return Front::Whole(before as usize + size);
                 }
-                let (_, behind) = rest.split_at(FULL_SIZE + 4);
-                rest = behind;
+                let (_, after) = rest.split_at(FULL_SIZE + 4);
+                rest = after;
                 next = next.wrapping_add(1);
                 before += FULL_SIZE as u32;
             }
@@ -172,7 +172,7 @@ fn join(store: &mut Vec<u8>, from: usize, size: usize)
     requires in_store { from + size + 4 * packet_count size ≤ vec_len store.old }
 
     ensures length { vec_len store.new ≡ vec_len store.old }
-    ensures joined { (id : ℕ) (message behind : List ℕ) → drop from store.old.items ≡ packets id message ++ behind → size ≡ length message → Joins from message behind store.new.items }
+    ensures joined { (id : ℕ) (message after : List ℕ) → drop from store.old.items ≡ packets id message ++ after → size ≡ length message → Joins from message after store.new.items }
 {
     if FULL_SIZE <= size {
         close_gaps(store, from + 4 + FULL_SIZE, size - FULL_SIZE);
@@ -186,7 +186,7 @@ fn close_gaps(store: &mut Vec<u8>, end: usize, size: usize)
     requires in_store { end + size + 4 * packet_count size ≤ vec_len store.old }
 
     ensures length { vec_len store.new ≡ vec_len store.old }
-    ensures joined { (id : ℕ) (message behind : List ℕ) → drop end store.old.items ≡ packets id message ++ behind → size ≡ length message → IsClosed end message behind store.old.items store.new.items }
+    ensures joined { (id : ℕ) (message after : List ℕ) → drop end store.old.items ≡ packets id message ++ after → size ≡ length message → IsClosed end message after store.old.items store.new.items }
 {
     let mut to = end;
     let mut packet = end;

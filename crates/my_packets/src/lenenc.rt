@@ -1,6 +1,6 @@
 // Length-encoded integers.
 ghost use Rattle.std.specs.Prelude.{◌≡◌, ◌++◌, OnOk, OnErr};
-ghost use Rattle.my_packets.specs.Lenenc.{lenenc, lenenc_of};
+ghost use Rattle.wire_forms.specs.Lenenc.{lenenc, lenenc_of};
 
 use plain_data::OutOfMemory;
 

@@ -1,7 +1,7 @@
 // A message of which the front is kept.
 ghost use Rattle.std.specs.Prelude.{ℕ, List, ◌≡◌, ◌+◌, ◌≤◌, ◌++◌, [], length, take, min};
 ghost use Rattle.my_packets.specs.Front.{Wants};
-ghost use Rattle.my_packets.specs.Packet.{packet_header, packets};
+ghost use Rattle.wire_forms.specs.Packet.{packet_header, packets};
 ghost use Rattle.my_packets.specs.Skims.{Feeds, Skims, fault_of, wanted};
 
 use crate::frame::FULL_SIZE;
@@ -169,7 +169,7 @@ impl Skim {
     }
 }
 
-// Puts bytes behind the first `size`, as many as there is room for, and answers how many there are
+// Puts bytes after the first `size`, as many as there is room for, and answers how many there are
 // then.
 #[inline]
 fn fill(place: &mut [u8], size: usize, piece: &[u8]) -> usize

@@ -1,13 +1,13 @@
 -- What a reply's first message says.
 use Rattle.std.proofs.Common.{◌≡◌, ℕ, true, List, take, refl, sym, ◌∙◌, ap, inl, inr, Option, Some}
 use Rattle.link_traits.specs.declared.link.Link.{Ghosts}
-use Rattle.my_packets.specs.Packet.{packets}
+use Rattle.wire_forms.specs.Packet.{packets}
 use Rattle.my_packets.specs.Skimmed.{Skimmed as SkimmedView}
 use Rattle.my_packets.specs.Skims.{Skims}
 use Rattle.result_rows.proofs.Fronts.{front_tells}
-use Rattle.result_rows.specs.Reply.{reply_of}
-use Rattle.result_rows.specs.declared.reader.Reply.{Reply}
-use Rattle.sql_statements.specs.declared.form.Form.{Form}
+use Rattle.wire_forms.specs.Reply.{reply_of}
+use Rattle.wire_forms.specs.declared.reply.Reply.{Reply}
+use Rattle.statement_forms.specs.declared.form.Form.{Form}
 use Rattle.my_session.specs.Awaited.{Awaited, done, count, done_fault, count_fault}
 use Rattle.my_session.specs.Channel.{Skimmed, IsOfChannel}
 use Rattle.my_session.specs.Halt.{Halts, Misheard}

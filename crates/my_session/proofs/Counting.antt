@@ -1,12 +1,12 @@
 -- The number of columns that a reply's first message tells.
 use Rattle.std.proofs.Common.{◌≡◌, ◌<◌, ◌≤◌, ◌==◌, ◌&&◌, nat_le, ℕ, Bool, true, false, if◌then◌else◌, List, [], ◌∷◌, length, refl, sym, arith, leb-true, Option, Some, None, option_map}
 use Rattle.std.specs.Prelude.{option_and_then}
-use Rattle.my_packets.specs.Lenenc.{lenenc_of}
-use Rattle.result_rows.specs.Definition.{column_count}
-use Rattle.result_rows.specs.Reply.{is_ok_packet, refusal_of, reply_of}
-use Rattle.result_rows.specs.declared.refusal.Refusal.{Refusal}
-use Rattle.result_rows.specs.declared.reader.Reply.{Reply}
-use Rattle.result_rows.specs.declared.reader.Reply.TheVariants.{Done, Refused as IsRefused, Columns}
+use Rattle.wire_forms.specs.Lenenc.{lenenc_of}
+use Rattle.wire_forms.specs.Definition.{column_count}
+use Rattle.wire_forms.specs.Reply.{is_ok_packet, refusal_of, reply_of}
+use Rattle.wire_forms.specs.declared.refusal.Refusal.{Refusal}
+use Rattle.wire_forms.specs.declared.reply.Reply.{Reply}
+use Rattle.wire_forms.specs.declared.reply.Reply.TheVariants.{Done, Refused as IsRefused, Columns}
 use Rattle.my_session.specs.Heard.{HasColumns}
 
 counted_by : (ends some few : Bool) (found columns : ℕ) → (some ≡ true → 1 ≤ found) → (few ≡ true → found ≤ 65535) → (if ends && some && few then Some found else None) ≡ Some columns → (0 < columns) × (columns < 65536)

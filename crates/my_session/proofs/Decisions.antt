@@ -4,16 +4,16 @@ use Rattle.std.proofs.lemmas.Bool.{eqb-true}
 use Rattle.honest_server.specs.Exchange.{Replies, accepted, switched, turned_away, quits, served, unknown, ignored, IsLoggingIn, AsksFor}
 use Rattle.honest_server.specs.Moves.{Way}
 use Rattle.honest_server.specs.State.{State, Phase, switching, in_session}
-use Rattle.my_login.specs.Switch.{switch_of, behind_request}
-use Rattle.my_login.specs.declared.fault.LoginFault.{LoginFault}
-use Rattle.my_login.specs.declared.fault.LoginFault.TheVariants.{PluginUnsupported, Garbled}
-use Rattle.my_login.specs.declared.switch.Switch.{Switch}
-use Rattle.result_rows.specs.Definition.{column_count}
-use Rattle.result_rows.specs.KeptText.{kept_text}
-use Rattle.result_rows.specs.Reply.{is_ok_packet, refusal_of, reply_of}
-use Rattle.result_rows.specs.declared.refusal.Refusal.{Refusal}
-use Rattle.result_rows.specs.declared.reader.Reply.TheVariants.{Done, Refused as IsRefused, Columns}
-use Rattle.result_rows.specs.declared.short_text.ShortText.{ShortText}
+use Rattle.wire_forms.specs.Switch.{switch_of, after_request}
+use Rattle.wire_forms.specs.declared.login_fault.LoginFault.{LoginFault}
+use Rattle.wire_forms.specs.declared.login_fault.LoginFault.TheVariants.{PluginUnsupported, Garbled}
+use Rattle.wire_forms.specs.declared.switch.Switch.{Switch}
+use Rattle.wire_forms.specs.Definition.{column_count}
+use Rattle.wire_forms.specs.KeptText.{kept_text}
+use Rattle.wire_forms.specs.Reply.{is_ok_packet, refusal_of, reply_of}
+use Rattle.wire_forms.specs.declared.refusal.Refusal.{Refusal}
+use Rattle.wire_forms.specs.declared.reply.Reply.TheVariants.{Done, Refused as IsRefused, Columns}
+use Rattle.wire_forms.specs.declared.short_text.ShortText.{ShortText}
 
 -- ---- the first byte of an OK is 0, that of an ERR is ff, and that of a request for another plugin fe
 
@@ -44,13 +44,13 @@ refused_by false true ok refusal number found e = refl
 refused_by false false ok refusal None found e = absurd (cc)
 refused_by false false ok refusal (Some number) found e = absurd (cc)
 
-switch_by : (is : Bool) (behind : Result Switch LoginFault) (found : Switch) → (if is then behind else Err Garbled) ≡ Ok found → is ≡ true
-switch_by true behind found e = refl
-switch_by false behind found e = absurd (cc)
+switch_by : (is : Bool) (after : Result Switch LoginFault) (found : Switch) → (if is then after else Err Garbled) ≡ Ok found → is ≡ true
+switch_by true after found e = refl
+switch_by false after found e = absurd (cc)
 
-unsupported_by : (is : Bool) (behind : Result Switch LoginFault) (name : ShortText) → (if is then behind else Err Garbled) ≡ Err (PluginUnsupported name) → is ≡ true
-unsupported_by true behind name e = refl
-unsupported_by false behind name e = absurd (cc)
+unsupported_by : (is : Bool) (after : Result Switch LoginFault) (name : ShortText) → (if is then after else Err Garbled) ≡ Err (PluginUnsupported name) → is ≡ true
+unsupported_by true after name e = refl
+unsupported_by false after name e = absurd (cc)
 
 done_begins : (message : List ℕ) → reply_of message ≡ Some Done → Begins 0 message
 done_begins [] is = absurd (cc)
@@ -62,11 +62,11 @@ refused_begins (byte ∷ bytes) refusal is = begins_by byte 255 bytes (refused_b
 
 switch_begins : (message : List ℕ) (found : Switch) → switch_of message ≡ Ok found → Begins 254 message
 switch_begins [] found is = absurd (cc)
-switch_begins (byte ∷ bytes) found is = begins_by byte 254 bytes (switch_by (byte == 254) (behind_request bytes) found is)
+switch_begins (byte ∷ bytes) found is = begins_by byte 254 bytes (switch_by (byte == 254) (after_request bytes) found is)
 
 unsupported_begins : (message : List ℕ) (name : ShortText) → switch_of message ≡ Err (PluginUnsupported name) → Begins 254 message
 unsupported_begins [] name is = absurd (cc)
-unsupported_begins (byte ∷ bytes) name is = begins_by byte 254 bytes (unsupported_by (byte == 254) (behind_request bytes) name is)
+unsupported_begins (byte ∷ bytes) name is = begins_by byte 254 bytes (unsupported_by (byte == 254) (after_request bytes) name is)
 
 asks_begins : (plugin message : List ℕ) → AsksFor plugin message → Begins 254 message
 asks_begins plugin message (inl native) = switch_begins message native.1 native.2

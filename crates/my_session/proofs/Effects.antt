@@ -1,4 +1,4 @@
--- What an honest server's answers leave of a link's state: its phase is the same behind a statement, and its terms always.
+-- What an honest server's answers leave of a link's state: its phase is the same after a statement, and its terms always.
 use Rattle.std.proofs.Common.{◌≡◌, ℕ, List, [], ◌∷◌, refl, ◌∙◌, ap, inl, inr, Option, Some, None}
 use Rattle.honest_server.specs.Effect.{Commits, EndsOpen, Creates, GoesInto, InsertsInto, Effect}
 use Rattle.honest_server.specs.Exchange.{Replies, accepted, switched, turned_away, quits, served, unknown, ignored, Exchanges}
@@ -6,16 +6,16 @@ use Rattle.honest_server.specs.Link.{ServedLink, Breaks}
 use Rattle.honest_server.specs.Moves.{Way, plainly}
 use Rattle.honest_server.specs.Serve.{Reply, done, rows, refused, Serves, GivesErr}
 use Rattle.honest_server.specs.State.{State, with_others, with_own}
-use Rattle.result_rows.specs.declared.refusal.Refusal.{Refusal}
-use Rattle.server_model.specs.declared.data.Change.{Change}
-use Rattle.server_model.specs.declared.data.Change.TheVariants.{Make}
-use Rattle.server_model.specs.declared.data.Transaction.{Transaction}
-use Rattle.sql_literals.specs.declared.cell.Cell.{Cell}
-use Rattle.sql_statements.specs.declared.command.Command.{Command}
-use Rattle.sql_statements.specs.declared.command.Command.TheVariants.{SetUp, NamesUtf8mb4, NamesBinary, ForeignKeyChecksOff, TimeZoneUtc, BinaryLogOff, SqlMode, CharacterSetClient, CollationConnection, RepeatableRead, LockInstance, FlushTables, UnlockTables, UnlockInstance, StartSnapshot, Start, Commit, Rollback, Use, Create, CreateProgress, CreateProgressFiles, CreateProgressDump, Insert, InsertProgressFile, InsertProgressDump}
-use Rattle.sql_statements.specs.declared.form.Form.{Form}
-use Rattle.sql_statements.specs.declared.statement.Statement.{Statement}
-use Rattle.sql_statements.specs.declared.statement.Statement.TheVariants.{Command as SomeCommand, Query as SomeQuery}
+use Rattle.wire_forms.specs.declared.refusal.Refusal.{Refusal}
+use Rattle.server_data.specs.declared.data.Change.{Change}
+use Rattle.server_data.specs.declared.data.Change.TheVariants.{Make}
+use Rattle.server_data.specs.declared.data.Transaction.{Transaction}
+use Rattle.sql_cells.specs.declared.cell.Cell.{Cell}
+use Rattle.statement_forms.specs.declared.command.Command.{Command}
+use Rattle.statement_forms.specs.declared.command.Command.TheVariants.{SetUp, NamesUtf8mb4, NamesBinary, ForeignKeyChecksOff, TimeZoneUtc, BinaryLogOff, SqlMode, CharacterSetClient, CollationConnection, RepeatableRead, LockInstance, FlushTables, UnlockTables, UnlockInstance, StartSnapshot, Start, Commit, Rollback, Use, Create, CreateProgress, CreateProgressFiles, CreateProgressDump, Insert, InsertProgressFile, InsertProgressDump}
+use Rattle.statement_forms.specs.declared.form.Form.{Form}
+use Rattle.statement_forms.specs.declared.statement.Statement.{Statement}
+use Rattle.statement_forms.specs.declared.statement.Statement.TheVariants.{Command as SomeCommand, Query as SomeQuery}
 
 pub record Keeps (old new : State) : Type 0 where
   pub phase : new.phase ≡ old.phase

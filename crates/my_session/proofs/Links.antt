@@ -4,9 +4,9 @@ use Rattle.std.proofs.lemmas.Bool.{false≢true}
 use Rattle.honest_server.specs.Exchange.{Replies, packets_from}
 use Rattle.honest_server.specs.Link.{ServedLink, Sends, Receives, IsAnswered}
 use Rattle.honest_server.specs.Moves.{plainly}
-use Rattle.link_traits.specs.Link.{Receives as TakesTold, stream, joined}
+use Rattle.link_traits.specs.Link.{Receives as TakesTold, stream, concatenation}
 use Rattle.link_traits.specs.declared.link.Link.{Ghosts}
-use Rattle.my_packets.specs.Packet.{packets, packet_count, id_behind}
+use Rattle.wire_forms.specs.Packet.{packets, packet_count, id_after}
 use Rattle.my_session.proofs.Effects.{exchanges_terms, breaks_terms}
 use Rattle.my_session.proofs.Payloads.{one_payload}
 use Rattle.my_session.specs.Serving.{Stays, Gives, Replied}
@@ -28,7 +28,7 @@ module _ {L : Type 0} (of : Ghosts L) where
   pub taken_off : (old new : L) (E : Type 0) (count : ℕ) (buffer : List ℕ) → (of.tells old → TakesTold {E = E} (of.told old) buffer (Ok count) (of.told new)) → of.tells old → stream (of.told old) ≡ take count buffer ++ stream (of.told new)
   taken_off old new E count buffer received t =
       let off = (received t).ok in
-      ap (λ (l : List ℕ). l ++ joined (of.told old).coming) off.bytes ∙ append_assoc (take count buffer) (of.told new).waiting (joined (of.told old).coming) ∙ ap (λ (c : List (List ℕ)). take count buffer ++ ((of.told new).waiting ++ joined c)) (sym off.coming)
+      ap (λ (l : List ℕ). l ++ concatenation (of.told old).coming) off.bytes ∙ append_assoc (take count buffer) (of.told new).waiting (concatenation (of.told old).coming) ∙ ap (λ (c : List (List ℕ)). take count buffer ++ ((of.told new).waiting ++ concatenation c)) (sym off.coming)
 
 module _ {L : Type 0} (of : Ghosts L) (old new : L) where
   -- a call on a link that has failed changes nothing of it
@@ -59,17 +59,17 @@ module _ {L : Type 0} (of : Ghosts L) (old new : L) where
 
   -- what is answered to the packets of a payload
   module _ (id : ℕ) (payload : List ℕ) (answered : IsAnswered plainly (of.served old) (packets id payload) (of.served new)) where
-    pub replied : (of.served old).failed ≡ false → Replied of payload old new (id_behind (packet_count (length payload)) id)
+    pub replied : (of.served old).failed ≡ false → Replied of payload old new (id_after (packet_count (length payload)) id)
     replied alive =
         let exchanges = answered.exchanges in
         let same = one_payload id exchanges.is_message.id payload exchanges.payload exchanges.is_message.message_is in
         let ids = same.ids in
         let size : length payload ≡ length exchanges.payload = ap (λ (l : List ℕ). length l) same.payload in
-        let behind : id_behind (packet_count (length exchanges.payload)) exchanges.is_message.id ≡ id_behind (packet_count (length payload)) id = omega arith in
+        let after : id_after (packet_count (length exchanges.payload)) exchanges.is_message.id ≡ id_after (packet_count (length payload)) id = omega arith in
         record {
           messages = exchanges.messages;
           replies = subst (λ (l : List ℕ). Replies plainly (of.served old).state l exchanges.messages (of.served new).state) (sym same.payload) exchanges.replies;
           was_alive = alive;
           alive = answered.alive;
-          waits = answered.waits ∙ ap (λ (l : List ℕ). (of.served old).waiting ++ l) (exchanges.reply_is ∙ ap (λ (n : ℕ). packets_from n exchanges.messages) behind);
+          waits = answered.waits ∙ ap (λ (l : List ℕ). (of.served old).waiting ++ l) (exchanges.reply_is ∙ ap (λ (n : ℕ). packets_from n exchanges.messages) after);
         }

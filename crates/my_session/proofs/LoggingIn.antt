@@ -3,17 +3,17 @@ use Rattle.std.proofs.Common.{◌≡◌, ◌≤◌, ◌↔◌, ℕ, false, List,
 use Rattle.std.specs.Prelude.{IfErr, MatchResult}
 use Rattle.std.proofs.lemmas.List.{append-nil}
 use Rattle.link_traits.specs.declared.link.Link.{Ghosts}
-use Rattle.my_login.specs.Response.{response}
-use Rattle.my_login.specs.declared.greeting.Greeting.{Greeting}
-use Rattle.my_login.specs.declared.switch.Switch.{Switch}
-use Rattle.my_login.specs.Switch.{switch_of}
-use Rattle.my_login.specs.declared.fault.LoginFault.{LoginFault}
-use Rattle.my_login.specs.declared.fault.LoginFault.TheVariants.{NotProtocol10 as NotTen, PluginUnsupported as Unsupported, Refused as LoginRefused, Garbled as LoginGarbled}
-use Rattle.result_rows.specs.Reply.{reply_of}
-use Rattle.result_rows.specs.declared.reader.Reply.{Reply}
-use Rattle.result_rows.specs.declared.reader.Reply.TheVariants.{Done, Refused as IsRefused, Columns}
-use Rattle.sql_statements.specs.declared.command.Command.TheVariants.{SetUp}
-use Rattle.sql_statements.specs.declared.form.Form.TheVariants.{Connect}
+use Rattle.wire_forms.specs.Response.{response}
+use Rattle.wire_forms.specs.declared.greeting.Greeting.{Greeting}
+use Rattle.wire_forms.specs.declared.switch.Switch.{Switch}
+use Rattle.wire_forms.specs.Switch.{switch_of}
+use Rattle.wire_forms.specs.declared.login_fault.LoginFault.{LoginFault}
+use Rattle.wire_forms.specs.declared.login_fault.LoginFault.TheVariants.{NotProtocol10 as NotTen, PluginUnsupported as Unsupported, Refused as LoginRefused, Garbled as LoginGarbled}
+use Rattle.wire_forms.specs.Reply.{reply_of}
+use Rattle.wire_forms.specs.declared.reply.Reply.{Reply}
+use Rattle.wire_forms.specs.declared.reply.Reply.TheVariants.{Done, Refused as IsRefused, Columns}
+use Rattle.statement_forms.specs.declared.command.Command.TheVariants.{SetUp}
+use Rattle.statement_forms.specs.declared.form.Form.TheVariants.{Connect}
 use Rattle.my_session.proofs.Running.{leads_on, leads_answered, leads_heard}
 use Rattle.my_session.specs.Awaited.{greeting, decision, done, decision_fault, switch_fault}
 use Rattle.my_session.specs.Channel.{ChannelView, channel_wire}

@@ -7,7 +7,7 @@ use Rattle.honest_server.specs.Link.{IsNoCreate}
 use Rattle.my_packets.proofs.Fronts.{one_front, same_packets}
 use Rattle.my_packets.proofs.Packets.{by_count, last_packets, long_packets}
 use Rattle.my_packets.specs.Front.{IsPart}
-use Rattle.my_packets.specs.Packet.{packet, next_id, id_behind, full_packets, full_count, packets, missing}
+use Rattle.wire_forms.specs.Packet.{packet, next_id, id_after, full_packets, full_count, packets, missing}
 use Rattle.my_session.specs.Serving.{MakesNoObject}
 
 -- ids that are the same modulo 256 have the same packets
@@ -24,7 +24,7 @@ packets_by_id id other message same =
     let last = drop (16777215 * count) message in
     let ids : (id + count) % 256 ≡ (other + count) % 256 = omega arith in
     by_count count id message refl
-    ∙ ap (λ (l : List ℕ). l ++ packet (id_behind count id) last) (same_full count id other message same)
+    ∙ ap (λ (l : List ℕ). l ++ packet (id_after count id) last) (same_full count id other message same)
     ∙ ap (λ (n : ℕ). full_packets count other message ++ packet n last) ids
     ∙ sym (by_count count other message refl)
 
@@ -92,15 +92,15 @@ part_wider limit wide id more bytes fits part =
     record {
       count = part.count;
       payload = part.payload;
-      behind = part.behind;
+      after = part.after;
       full = record { size_is = part.full.size_is; short = omega arith; bytes_are = part.full.bytes_are };
-      missing_is = missing_is ∙ sym (missing_wider (limit - length part.payload) (wide - length part.payload) (id_behind part.count id) part.behind (omega arith) (omega arith));
+      missing_is = missing_is ∙ sym (missing_wider (limit - length part.payload) (wide - length part.payload) (id_after part.count id) part.after (omega arith) (omega arith));
       some = some;
     }
 
 -- so a part of a message isn't all of one, however long that is
-pub part_is_not_all : (limit id more : ℕ) (message bytes behind : List ℕ) → bytes ≡ packets id message ++ behind → IsPart limit id more bytes → ⊥
-part_is_not_all limit id more message bytes behind bytes_are part =
-    (one_front (max limit (length message)) id bytes).message_is_whole more message behind
+pub part_is_not_all : (limit id more : ℕ) (message bytes after : List ℕ) → bytes ≡ packets id message ++ after → IsPart limit id more bytes → ⊥
+part_is_not_all limit id more message bytes after bytes_are part =
+    (one_front (max limit (length message)) id bytes).message_is_whole more message after
     (record { short = omega arith; bytes_are = bytes_are })
     (part_wider limit (max limit (length message)) id more bytes (omega arith) part)

@@ -3,24 +3,24 @@ use Rattle.std.proofs.Common.{◌≡◌, ◌<◌, ◌+◌, ◌-◌, ◌==◌, �
 use Rattle.std.specs.Prelude.{IfErr}
 use Rattle.std.proofs.lemmas.Bool.{ne_eqb}
 use Rattle.std.proofs.lemmas.List.{map-append}
-use Rattle.result_rows.specs.Definition.{is_definition}
-use Rattle.result_rows.specs.Reading.{Reading, Further, definition, row, garbled, counted, further_of, after, definition_if, end_if, refused_if, row_if, row_of}
-use Rattle.result_rows.specs.Reply.{is_eof_packet, refusal_of}
-use Rattle.result_rows.specs.Row.{Cell, cells_of}
-use Rattle.result_rows.specs.ResultSet.{taken}
-use Rattle.result_rows.specs.declared.refusal.Refusal.{Refusal}
+use Rattle.wire_forms.specs.Definition.{is_definition}
+use Rattle.wire_forms.specs.Reading.{Reading, Further, definition, row, garbled, columns_counted, further_of, reading_after, definition_if, end_if, refused_if, row_if, row_of}
+use Rattle.wire_forms.specs.Reply.{is_eof_packet, refusal_of}
+use Rattle.wire_forms.specs.Row.{Cell, cells_of}
+use Rattle.wire_forms.specs.ResultSet.{turns_of}
+use Rattle.wire_forms.specs.declared.refusal.Refusal.{Refusal}
 use Rattle.result_rows.specs.RowCells.{row_cells}
 use Rattle.result_rows.specs.Turns.{IsTurn}
 use Rattle.result_rows.specs.declared.row.Row.{Row}
 use Rattle.result_rows.specs.declared.reader.Turn.{Turn}
 use Rattle.result_rows.specs.declared.reader.Turn.TheVariants.{Row as IsRow}
-use Rattle.result_rows.specs.declared.reader.Reply.TheVariants.{Columns}
-use Rattle.sql_statements.specs.Form.{query_form}
-use Rattle.sql_statements.specs.Text.{query_text}
-use Rattle.sql_statements.specs.declared.command.Command.TheVariants.{Use}
-use Rattle.sql_statements.specs.declared.form.Form.{Form}
-use Rattle.sql_statements.specs.declared.query.Query.{Query}
-use Rattle.sql_statements.specs.declared.query.Query.TheVariants.{CreateTable, CreateView, CreateProcedure, CreateFunction, CreateTrigger}
+use Rattle.wire_forms.specs.declared.reply.Reply.TheVariants.{Columns}
+use Rattle.statement_forms.specs.Form.{query_form}
+use Rattle.statement_forms.specs.Text.{query_text}
+use Rattle.statement_forms.specs.declared.command.Command.TheVariants.{Use}
+use Rattle.statement_forms.specs.declared.form.Form.{Form}
+use Rattle.statement_forms.specs.declared.query.Query.{Query}
+use Rattle.statement_forms.specs.declared.query.Query.TheVariants.{CreateTable, CreateView, CreateProcedure, CreateFunction, CreateTrigger}
 use Rattle.my_session.proofs.Running.{leads_on, leads_said, leads_heard}
 use Rattle.my_session.specs.Awaited.{Awaited, count, further}
 use Rattle.my_session.specs.Halt.{Halts, Unsaid, Stops, at_message, at_payload}
@@ -98,21 +98,21 @@ awaited_by false false eof is other not = by_tests is
 pub awaits_definition : (reading : Reading) (payload : List ℕ) → 0 < reading.awaited → (further_of reading payload ≡ definition) ⊎ (further_of reading payload ≡ garbled)
 awaits_definition reading payload some = awaited_by (reading.awaited == 0) (reading.awaited == 1) (is_eof_packet payload) (is_definition payload) (row_of reading.columns payload) (let other : reading.awaited ≢ 0 = omega arith in ne_eqb reading.awaited 0 other)
 
-more_turns : (reading : Reading) (others : List (List ℕ)) (message : List ℕ) → taken reading others ≡ replicate (length others) definition → further_of (record reading { awaited = reading.awaited - length others }) message ≡ definition → taken reading (others ++ message ∷ []) ≡ replicate (length others + 1) definition
+more_turns : (reading : Reading) (others : List (List ℕ)) (message : List ℕ) → turns_of reading others ≡ replicate (length others) definition → further_of (record reading { awaited = reading.awaited - length others }) message ≡ definition → turns_of reading (others ++ message ∷ []) ≡ replicate (length others + 1) definition
 more_turns reading [] message turns is =
     let same : reading.awaited - 0 ≡ reading.awaited = omega arith in
     ap (λ (f : Further). f ∷ []) (ap (λ (n : ℕ). further_of (record reading { awaited = n }) message) (sym same) ∙ is)
 more_turns reading (other ∷ others) message turns is =
     let first : further_of reading other ≡ definition = cc in
-    let others_are : taken (after reading (further_of reading other)) others ≡ replicate (length others) definition = cc in
-    let later : taken (record reading { awaited = reading.awaited - 1 }) others ≡ replicate (length others) definition = ap (λ (f : Further). taken (after reading f) others) (sym first) ∙ others_are in
+    let others_are : turns_of (reading_after reading (further_of reading other)) others ≡ replicate (length others) definition = cc in
+    let later : turns_of (record reading { awaited = reading.awaited - 1 }) others ≡ replicate (length others) definition = ap (λ (f : Further). turns_of (reading_after reading f) others) (sym first) ∙ others_are in
     let at : reading.awaited - 1 - length others ≡ reading.awaited - suc (length others) = omega arith in
-    let whole : taken (record reading { awaited = reading.awaited - 1 }) (others ++ message ∷ []) ≡ replicate (length others + 1) definition = more_turns (record reading { awaited = reading.awaited - 1 }) others message later (ap (λ (n : ℕ). further_of (record reading { awaited = n }) message) at ∙ is) in
+    let whole : turns_of (record reading { awaited = reading.awaited - 1 }) (others ++ message ∷ []) ≡ replicate (length others + 1) definition = more_turns (record reading { awaited = reading.awaited - 1 }) others message later (ap (λ (n : ℕ). further_of (record reading { awaited = n }) message) at ∙ is) in
     let size : suc (length others + 1) ≡ suc (length others) + 1 = omega arith in
-    ap (λ (f : Further). f ∷ taken (after reading f) (others ++ message ∷ [])) first ∙ ap (λ (l : List Further). definition ∷ l) whole ∙ ap (λ (n : ℕ). replicate n definition) size
+    ap (λ (f : Further). f ∷ turns_of (reading_after reading f) (others ++ message ∷ [])) first ∙ ap (λ (l : List Further). definition ∷ l) whole ∙ ap (λ (n : ℕ). replicate n definition) size
 
 module _ (query : Query) (start old new : Wire) where
-  pub described_first : (columns : ℕ) → Takes (IsAsked query) start old → HearsReply (Some (Columns columns)) old new → Takes (λ steps. IsDescribed query steps (counted columns)) start new
+  pub described_first : (columns : ℕ) → Takes (IsAsked query) start old → HearsReply (Some (Columns columns)) old new → Takes (λ steps. IsDescribed query steps (columns_counted columns)) start new
   described_first columns takes heard = record {
     steps = takes.steps ++ hears heard.message ∷ [];
     so = record {
@@ -145,7 +145,7 @@ module _ (query : Query) (start old new : Wire) where
             others = so.others ++ heard.message ∷ [];
             columns = so.columns;
             reply = so.reply;
-            turns = more_turns (counted so.columns) so.others heard.message so.turns (ap (λ (r : Reading). further_of r heard.message) here ∙ heard.is) ∙ ap (λ (n : ℕ). replicate n definition) (sym size);
+            turns = more_turns (columns_counted so.columns) so.others heard.message so.turns (ap (λ (r : Reading). further_of r heard.message) here ∙ heard.is) ∙ ap (λ (n : ℕ). replicate n definition) (sym size);
             reading_is = ap (λ (r : Reading). record r { awaited = r.awaited - 1 }) so.reading_is ∙ ap (λ (n : ℕ). let r : Reading = record { columns = so.columns; awaited = n } in r) left;
             steps_are =
                 ap (λ (l : List Step). l ++ hears heard.message ∷ []) so.steps_are
@@ -213,10 +213,10 @@ is_row_of reading message cells none is = record {
   is = is;
 }
 
-pub judged_row : (reading now : Reading) (message : List ℕ) (place : ℕ) (turn : Turn) (found : Row) → reading.awaited ≡ 0 → turn ≡ IsRow found → IsTurn place (Ok turn) (further_of reading message) → now ≡ after reading (further_of reading message) → IsRowOf reading message × (now ≡ reading)
-judged_row reading now message place turn found none is told behind =
+pub judged_row : (reading now : Reading) (message : List ℕ) (place : ℕ) (turn : Turn) (found : Row) → reading.awaited ≡ 0 → turn ≡ IsRow found → IsTurn place (Ok turn) (further_of reading message) → now ≡ reading_after reading (further_of reading message) → IsRowOf reading message × (now ≡ reading)
+judged_row reading now message place turn found none is told after =
     let said : IsTurn place (Ok (IsRow found)) (further_of reading message) = subst (λ (t : Turn). IsTurn place (Ok t) (further_of reading message)) is told in
-    (is_row_of reading message (row_cells found) none said.0, behind ∙ ap (λ (f : Further). after reading f) said.0)
+    (is_row_of reading message (row_cells found) none said.0, after ∙ ap (λ (f : Further). reading_after reading f) said.0)
 
 pub rows_no_definition : (reading : Reading) (message : List ℕ) → reading.awaited ≡ 0 → further_of reading message ≡ definition → ⊥
 rows_no_definition reading message none is = row_no_definition reading.columns message (sym (in_place reading message none) ∙ is)

@@ -8,12 +8,12 @@ use Rattle.my_packets.proofs.Fronts.{one_front}
 use Rattle.my_packets.proofs.Packets.{packets_length}
 use Rattle.my_packets.specs.Begins.{IsWrong}
 use Rattle.my_packets.specs.Front.{HasMessage, IsPart, Wants}
-use Rattle.my_packets.specs.Packet.{packets, packet_count, id_behind}
+use Rattle.wire_forms.specs.Packet.{packets, packet_count, id_after}
 use Rattle.my_packets.specs.Steps.{Passes, Steps}
 use Rattle.my_packets.specs.Unread.{Unread}
 use Rattle.my_packets.specs.declared.frames.FrameFault.{FrameFault}
 use Rattle.my_packets.specs.declared.frames.FrameFault.TheVariants.{BadSequence, TooLong as FrameTooLong}
-use Rattle.my_session.proofs.Exact.{exact_at_first, exact_behind}
+use Rattle.my_session.proofs.Exact.{exact_at_first, exact_after}
 use Rattle.my_session.proofs.Links.{taken_off, recv_alive, recv_gives}
 use Rattle.my_session.proofs.Payloads.{part_is_not_all}
 use Rattle.my_session.proofs.Staying.{stays_begin, stays_on}
@@ -101,7 +101,7 @@ module _ {L : Type 0} (of : Ghosts L) where
             subst (λ (l : List ℕ). IsExact first.limit first.id l) (sym bytes_are) (
             subst (λ (n : ℕ). IsExact n first.id (frames.bytes ++ fetches.piece)) gathers.limit (
             subst (λ (n : ℕ). IsExact frames.limit n (frames.bytes ++ fetches.piece)) gathers.id (
-            exact_behind frames.limit frames.id wants frames.bytes fetches.piece (wanted.part some) fetches.fits)));
+            exact_after frames.limit frames.id wants frames.bytes fetches.piece (wanted.part some) fetches.fits)));
         sent = λ t. sent (gathers.tells.0 t) ∙ gathers.sent t;
         stream = λ t. ap (λ (l : List ℕ). l ++ stream (of.told next)) bytes_are ∙ append_assoc frames.bytes fetches.piece (stream (of.told next)) ∙ ap (λ (l : List ℕ). frames.bytes ++ l) (sym (fetches.stream (gathers.tells.0 t))) ∙ gathers.stream t;
         stays = stays_on of joins start link next gathers.stays stays;
@@ -122,8 +122,8 @@ module _ {L : Type 0} (of : Ghosts L) where
   gathered_waits start link first frames taken_first taken wants gathers waits some wanted serving none =
       let before : IsServing of start = record { honest = gathers.stays.honest.1 serving.honest; alive = gathers.stays.back (gathers.stays.honest.1 serving.honest) serving.alive } in
       let message = waits before in
-      part_is_not_all frames.limit frames.id wants message.message frames.bytes message.behind
-      (sym (append-nil frames.bytes) ∙ ap (λ (l : List ℕ). frames.bytes ++ l) (sym none) ∙ sym (gathers.gives before).waits ∙ message.waits ∙ ap (λ (n : ℕ). packets n message.message ++ message.behind) (sym gathers.id))
+      part_is_not_all frames.limit frames.id wants message.message frames.bytes message.after
+      (sym (append-nil frames.bytes) ∙ ap (λ (l : List ℕ). frames.bytes ++ l) (sym none) ∙ sym (gathers.gives before).waits ∙ message.waits ∙ ap (λ (n : ℕ). packets n message.message ++ message.after) (sym gathers.id))
       (wanted.part some)
 
   module _ (start link : L) (first frames : Unread) (taken_first taken : ℕ) (gathers : Gathers of start link first frames taken_first taken) (limited : first.limit ≡ 67108864) (inside : taken ≤ 2 ^ 62) where
@@ -169,7 +169,7 @@ module _ {L : Type 0} (of : Ghosts L) where
           stream = sym (gathers.stream t) ∙ ap (λ (l : List ℕ). l ++ stream (of.told link)) (bytes_are ∙ ap (λ (n : ℕ). packets n new.message) gathers.id);
           place = omega arith;
           within = inside;
-          id = passes.id ∙ ap (λ (n : ℕ). id_behind (packet_count (length new.message)) n) gathers.id;
+          id = passes.id ∙ ap (λ (n : ℕ). id_after (packet_count (length new.message)) n) gathers.id;
           sent = gathers.sent t;
         }
 
@@ -182,7 +182,7 @@ module _ {L : Type 0} (of : Ghosts L) where
         let bytes_are : frames.bytes ≡ packets frames.id new.message = passes.message.bytes_are ∙ ap (λ (l : List ℕ). packets frames.id new.message ++ l) (ends_exactly new passes) ∙ append-nil (packets frames.id new.message) in
         record {
           gives = record { alive = gives.alive; state = gives.state; waits = gives.waits ∙ ap (λ (l : List ℕ). l ++ (of.served link).waiting) (bytes_are ∙ ap (λ (n : ℕ). packets n new.message) gathers.id) };
-          id = passes.id ∙ ap (λ (n : ℕ). id_behind (packet_count (length new.message)) n) gathers.id;
+          id = passes.id ∙ ap (λ (n : ℕ). id_after (packet_count (length new.message)) n) gathers.id;
         }
 
     wrong_here : (fault : FrameFault) → IsWrong frames.limit frames.id frames.bytes fault → of.tells start → IsWrong 67108864 first.id (within (wire_at of start taken_first first.id)) fault

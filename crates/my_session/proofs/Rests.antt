@@ -6,16 +6,16 @@ use Rattle.honest_server.specs.Spelled.{Spells, SpellsErr, BreaksOff, SpellsRows
 use Rattle.honest_server.specs.Moves.{Way}
 use Rattle.honest_server.specs.State.{State, Phase, in_session}
 use Rattle.result_rows.proofs.ResultSets.{set-taken}
-use Rattle.result_rows.specs.Reading.{Reading, Further, definition, row, end, refused as refused_turn, garbled, counted, further_of, after}
-use Rattle.result_rows.specs.Reply.{reply_of}
-use Rattle.result_rows.specs.ResultSet.{taken}
-use Rattle.result_rows.specs.Row.{Cell}
-use Rattle.result_rows.specs.declared.refusal.Refusal.{Refusal}
-use Rattle.result_rows.specs.declared.reader.Reply.{Reply as FirstReply}
-use Rattle.sql_literals.specs.declared.cell.Cell.{Cell as FoundCell}
-use Rattle.sql_statements.specs.declared.query.Query.{Query}
-use Rattle.sql_statements.specs.declared.statement.Statement.{Statement}
-use Rattle.sql_statements.specs.declared.statement.Statement.TheVariants.{Command as SomeCommand, Query as SomeQuery}
+use Rattle.wire_forms.specs.Reading.{Reading, Further, definition, row, end, refused as refused_turn, garbled, columns_counted, further_of, reading_after}
+use Rattle.wire_forms.specs.Reply.{reply_of}
+use Rattle.wire_forms.specs.ResultSet.{turns_of}
+use Rattle.wire_forms.specs.Row.{Cell}
+use Rattle.wire_forms.specs.declared.refusal.Refusal.{Refusal}
+use Rattle.wire_forms.specs.declared.reply.Reply.{Reply as FirstReply}
+use Rattle.sql_cells.specs.declared.cell.Cell.{Cell as FoundCell}
+use Rattle.statement_forms.specs.declared.query.Query.{Query}
+use Rattle.statement_forms.specs.declared.statement.Statement.{Statement}
+use Rattle.statement_forms.specs.declared.statement.Statement.TheVariants.{Command as SomeCommand, Query as SomeQuery}
 use Rattle.my_session.proofs.Effects.{serves_keeps, unknown_keeps}
 use Rattle.my_session.specs.InStep.{Completes, ends, breaks_off, defines, has_row, Follows, IsReply}
 
@@ -35,23 +35,23 @@ completes_last reading end message ending is = ends is
 completes_last reading (refused_turn refusal) message ending is = breaks_off is
 completes_last reading garbled message ending is = absurd ending
 
-completes_rows : (reading : Reading) (found : List (List Cell)) (last : Further) (messages : List (List ℕ)) → EndsRows last → taken reading messages ≡ map row found ++ last ∷ [] → Completes reading messages
+completes_rows : (reading : Reading) (found : List (List Cell)) (last : Further) (messages : List (List ℕ)) → EndsRows last → turns_of reading messages ≡ map row found ++ last ∷ [] → Completes reading messages
 completes_rows reading [] last [] ending turns = absurd (cc)
 completes_rows reading [] last (message ∷ []) ending turns = completes_last reading last message ending (let first : further_of reading message ≡ last = cc in first)
 completes_rows reading [] last (message ∷ other ∷ messages) ending turns = absurd (cc)
 completes_rows reading (cells ∷ found) last [] ending turns = absurd (cc)
 completes_rows reading (cells ∷ found) last (message ∷ messages) ending turns =
     let first : further_of reading message ≡ row cells = cc in
-    let others : taken (after reading (further_of reading message)) messages ≡ map row found ++ last ∷ [] = cc in
-    has_row first (completes_rows reading found last messages ending (ap (λ (f : Further). taken (after reading f) messages) (sym first) ∙ others))
+    let others : turns_of (reading_after reading (further_of reading message)) messages ≡ map row found ++ last ∷ [] = cc in
+    has_row first (completes_rows reading found last messages ending (ap (λ (f : Further). turns_of (reading_after reading f) messages) (sym first) ∙ others))
 
-completes_turns : (count : ℕ) (reading : Reading) (found : List (List Cell)) (last : Further) (messages : List (List ℕ)) → EndsRows last → taken reading messages ≡ replicate count definition ++ (map row found ++ last ∷ []) → Completes reading messages
+completes_turns : (count : ℕ) (reading : Reading) (found : List (List Cell)) (last : Further) (messages : List (List ℕ)) → EndsRows last → turns_of reading messages ≡ replicate count definition ++ (map row found ++ last ∷ []) → Completes reading messages
 completes_turns zero reading found last messages ending turns = completes_rows reading found last messages ending turns
 completes_turns (suc count) reading found last [] ending turns = absurd (cc)
 completes_turns (suc count) reading found last (message ∷ messages) ending turns =
     let first : further_of reading message ≡ definition = cc in
-    let others : taken (after reading (further_of reading message)) messages ≡ replicate count definition ++ (map row found ++ last ∷ []) = cc in
-    defines first (completes_turns count (after reading definition) found last messages ending (ap (λ (f : Further). taken (after reading f) messages) (sym first) ∙ others))
+    let others : turns_of (reading_after reading (further_of reading message)) messages ≡ replicate count definition ++ (map row found ++ last ∷ []) = cc in
+    defines first (completes_turns count (reading_after reading definition) found last messages ending (ap (λ (f : Further). turns_of (reading_after reading f) messages) (sym first) ∙ others))
 
 -- ---- a reply in a session
 
@@ -73,7 +73,7 @@ rows_reply willing query found messages spells =
       first = is_taken.first;
       others = is_taken.others;
       messages_are = is_taken.messages_are;
-      follows = subst (λ (r : Option FirstReply). Follows r is_taken.others) (sym is_taken.reply) (completes_turns (spells.columns + 1) (counted spells.columns) (sent_rows found) end is_taken.others tt is_taken.turns);
+      follows = subst (λ (r : Option FirstReply). Follows r is_taken.others) (sym is_taken.reply) (completes_turns (spells.columns + 1) (columns_counted spells.columns) (sent_rows found) end is_taken.others tt is_taken.turns);
     }
 
 broken_reply : (willing : Bool) (query : Query) (found : List (List FoundCell)) (refusal : Refusal) (messages : List (List ℕ)) → BreaksOff willing query found refusal messages → IsReply messages
@@ -81,7 +81,7 @@ broken_reply willing query found refusal messages breaks = record {
   first = breaks.first;
   others = breaks.others;
   messages_are = breaks.messages_are;
-  follows = subst (λ (r : Option FirstReply). Follows r breaks.others) (sym breaks.counts) (completes_turns (breaks.columns + 1) (counted breaks.columns) (sent_rows found) (refused_turn refusal) breaks.others tt breaks.turns);
+  follows = subst (λ (r : Option FirstReply). Follows r breaks.others) (sym breaks.counts) (completes_turns (breaks.columns + 1) (columns_counted breaks.columns) (sent_rows found) (refused_turn refusal) breaks.others tt breaks.turns);
 }
 
 spelled_reply : (willing : Bool) (statement : Statement) (reply : Reply) (messages : List (List ℕ)) → Spells willing statement reply messages → IsReply messages

@@ -1,34 +1,34 @@
 -- How a conversation goes on, and how a command is run.
 use Rattle.std.proofs.Common.{◌≡◌, ℕ, List, [], ◌∷◌, ◌++◌, refl, sym, subst, Some, Result, Ok, Err, OnOk}
 use Rattle.std.specs.Prelude.{IfErr}
-use Rattle.result_rows.specs.declared.reader.Reply.TheVariants.{Done}
-use Rattle.sql_statements.specs.Form.{command_form}
-use Rattle.sql_statements.specs.declared.command.Command.{Command}
-use Rattle.sql_statements.specs.declared.form.Form.{Form}
+use Rattle.wire_forms.specs.declared.reply.Reply.TheVariants.{Done}
+use Rattle.statement_forms.specs.Form.{command_form}
+use Rattle.statement_forms.specs.declared.command.Command.{Command}
+use Rattle.statement_forms.specs.declared.form.Form.{Form}
 use Rattle.my_session.specs.Awaited.{done}
 use Rattle.my_session.specs.Halt.{Halts, Unsaid, Stops, at_message, at_payload}
 use Rattle.my_session.specs.Heard.{HearsReply}
 use Rattle.my_session.specs.Session.{Runs}
 use Rattle.my_session.specs.Statements.{IsRun, RunAwaits, an_ok, RunSends, command_payload}
-use Rattle.my_session.specs.Wire.{Wire, Hears, Step, commands, answers, hears, Leads, ends, behind_command, behind_answer, behind_message, Takes, Sent, behind_sent}
+use Rattle.my_session.specs.Wire.{Wire, Hears, Step, commands, answers, hears, Leads, ends, after_command, after_answer, after_message, Takes, Sent, after_sent}
 use Rattle.my_session.specs.declared.fault.SessionFault.{SessionFault}
 use Rattle.my_session.specs.declared.fault.SessionFault.TheVariants.{OutOfMemory}
 
--- one conversation behind another
+-- one conversation after another
 pub leads_on : (before after : List Step) (old middle new : Wire) → Leads before old middle → Leads after middle new → Leads (before ++ after) old new
 leads_on [] after old middle new ends later = later
-leads_on (commands payload ∷ before) after old middle new (behind_command short first) later = behind_command short (leads_on before after (behind_sent 0 payload old) middle new first later)
-leads_on (answers payload ∷ before) after old middle new (behind_answer short first) later = behind_answer short (leads_on before after (behind_sent old.id payload old) middle new first later)
-leads_on (hears message ∷ before) after old middle new (behind_message {middle = next} heard first) later = behind_message heard (leads_on before after next middle new first later)
+leads_on (commands payload ∷ before) after old middle new (after_command short first) later = after_command short (leads_on before after (after_sent 0 payload old) middle new first later)
+leads_on (answers payload ∷ before) after old middle new (after_answer short first) later = after_answer short (leads_on before after (after_sent old.id payload old) middle new first later)
+leads_on (hears message ∷ before) after old middle new (after_message {middle = next} heard first) later = after_message heard (leads_on before after next middle new first later)
 
 pub leads_said : (payload : List ℕ) (old new : Wire) → Sent 0 payload old new → Leads (commands payload ∷ []) old new
-leads_said payload old new sent = subst (λ (w : Wire). Leads (commands payload ∷ []) old w) (sym sent.new_is) (behind_command sent.short ends)
+leads_said payload old new sent = subst (λ (w : Wire). Leads (commands payload ∷ []) old w) (sym sent.new_is) (after_command sent.short ends)
 
 pub leads_answered : (payload : List ℕ) (old new : Wire) → Sent old.id payload old new → Leads (answers payload ∷ []) old new
-leads_answered payload old new sent = subst (λ (w : Wire). Leads (answers payload ∷ []) old w) (sym sent.new_is) (behind_answer sent.short ends)
+leads_answered payload old new sent = subst (λ (w : Wire). Leads (answers payload ∷ []) old w) (sym sent.new_is) (after_answer sent.short ends)
 
 pub leads_heard : (message : List ℕ) (old new : Wire) → Hears message old new → Leads (hears message ∷ []) old new
-leads_heard message old new heard = behind_message heard ends
+leads_heard message old new heard = after_message heard ends
 
 -- what holds under a premise at an answer, holds at the answer under the premise
 pub ok_where : {P : Type 0} (Q : Type 0) (result : Result (Unit {0}) SessionFault) → (P → OnOk result Q) → OnOk result (P → Q)

@@ -5,22 +5,22 @@ use Rattle.honest_server.specs.Exchange.{BeginsAt, IsLoggingIn, IsWholeMessage}
 use Rattle.honest_server.specs.Moves.{plainly}
 use Rattle.honest_server.specs.State.{Phase, greeted, switching, in_session, over}
 use Rattle.my_packets.proofs.Packets.{short_packets}
-use Rattle.my_packets.specs.Packet.{packet, packets, packet_count, id_behind}
-use Rattle.link_traits.specs.Link.{Told, stream, joined, first, others, answered}
+use Rattle.wire_forms.specs.Packet.{packet, packets, packet_count, id_after}
+use Rattle.link_traits.specs.Link.{Told, stream, concatenation, first, others, told_after_send}
 use Rattle.link_traits.specs.declared.link.Link.{Ghosts}
 use Rattle.my_session.proofs.Links.{replied}
 use Rattle.my_session.proofs.Payloads.{no_create}
 use Rattle.my_session.specs.Serving.{MakesNoObject, Replied}
 use Rattle.my_session.specs.declared.fault.SessionFault.{SessionFault}
 
-all_joined : (lists : List (List ℕ)) → first lists ++ joined (others lists) ≡ joined lists
+all_joined : (lists : List (List ℕ)) → first lists ++ concatenation (others lists) ≡ concatenation lists
 all_joined [] = refl
 all_joined (list ∷ lists) = refl
 
 -- a send moves bytes from what is still to come to what waits
-pub stream_answered : (told now : Told) (message : List ℕ) → now ≡ answered told message → stream now ≡ stream told
+pub stream_answered : (told now : Told) (message : List ℕ) → now ≡ told_after_send told message → stream now ≡ stream told
 stream_answered told now message is =
-    ap (λ (t : Told). stream t) is ∙ append_assoc told.waiting (first told.coming) (joined (others told.coming)) ∙ ap (λ (l : List ℕ). told.waiting ++ l) (all_joined told.coming)
+    ap (λ (t : Told). stream t) is ∙ append_assoc told.waiting (first told.coming) (concatenation (others told.coming)) ∙ ap (λ (l : List ℕ). told.waiting ++ l) (all_joined told.coming)
 
 -- a short payload is one packet
 pub short_is_sent : (id : ℕ) (payload : List ℕ) → id < 256 → length payload ≤ 1001 → packets id payload ≡ packet id payload
@@ -66,13 +66,13 @@ quit_makes_none = short_makes_none 0 (1 ∷ []) (1 ∷ 0 ∷ 0 ∷ 0 ∷ 1 ∷ [
 
 -- what is answered to the packets of a payload is answered to it
 module _ {L : Type 0} (of : Ghosts L) (old new : L) (id next : ℕ) (payload bytes : List ℕ) where
-  pub said : bytes ≡ packets id payload → next ≡ id_behind (packet_count (length payload)) id → (of.honest old → (of.served old).failed ≡ false) → (of.honest old → IsAnswered plainly (of.served old) bytes (of.served new)) → of.honest old → Replied of payload old new next
-  said bytes_are next_is alive answered h =
+  pub said : bytes ≡ packets id payload → next ≡ id_after (packet_count (length payload)) id → (of.honest old → (of.served old).failed ≡ false) → (of.honest old → IsAnswered plainly (of.served old) bytes (of.served new)) → of.honest old → Replied of payload old new next
+  said bytes_are next_is alive told_after_send h =
       subst (λ (n : ℕ). Replied of payload old new n) (sym next_is)
-      (replied of old new id payload (subst (λ (l : List ℕ). IsAnswered plainly (of.served old) l (of.served new)) bytes_are (answered h)) (alive h))
+      (replied of old new id payload (subst (λ (l : List ℕ). IsAnswered plainly (of.served old) l (of.served new)) bytes_are (told_after_send h)) (alive h))
 
 module _ {L : Type 0} (of : Ghosts L) (old new : L) (id now next : ℕ) (payload bytes : List ℕ) where
   pub short_said : (result : Result (Unit {0}) SessionFault) → id < 256 → length payload ≤ 1001 → bytes ≡ packet id payload → next ≡ (id + 1) % 256 → OnOk result (now ≡ next) → OnOk result (of.honest old → (of.served old).failed ≡ false) → OnOk result (of.honest old → IsAnswered plainly (of.served old) bytes (of.served new))
       → OnOk result (of.honest old → Replied of payload old new now)
-  short_said (Ok sent) byte short is next_is here alive answered = said of old new id now payload bytes (is ∙ sym (short_is_sent id payload byte short)) (here ∙ next_is ∙ (omega arith)) alive answered
-  short_said (Err fault) byte short is next_is here alive answered = tt
+  short_said (Ok sent) byte short is next_is here alive told_after_send = said of old new id now payload bytes (is ∙ sym (short_is_sent id payload byte short)) (here ∙ next_is ∙ (omega arith)) alive told_after_send
+  short_said (Err fault) byte short is next_is here alive told_after_send = tt

@@ -7,7 +7,7 @@ use Rattle.link_traits.specs.declared.link.Link.{Ghosts}
 use Rattle.my_packets.proofs.Packets.{packets_length}
 use Rattle.my_packets.specs.Begins.{IsWrong}
 use Rattle.my_packets.specs.Front.{IsPart, Wants}
-use Rattle.my_packets.specs.Packet.{packets, packet_count, id_behind}
+use Rattle.wire_forms.specs.Packet.{packets, packet_count, id_after}
 use Rattle.my_packets.specs.Skimmed.{Skimmed}
 use Rattle.my_packets.specs.Skims.{Skims, IsAt, IsRead, wanted, Feeds, wanted_at, fault_of, fault_at}
 use Rattle.my_packets.specs.declared.frames.FrameFault.{FrameFault}
@@ -114,7 +114,7 @@ module _ {L : Type 0} (of : Ghosts L) where
     drained_waits wants waits some wanted serving none =
         let before : IsServing of start = record { honest = drains.stays.honest.1 serving.honest; alive = drains.stays.back (drains.stays.honest.1 serving.honest) serving.alive } in
         let message = waits before in
-        part_is_not_all 67108864 seq wants message.message drains.fed message.behind
+        part_is_not_all 67108864 seq wants message.message drains.fed message.after
         (sym (append-nil drains.fed) ∙ ap (λ (l : List ℕ). drains.fed ++ l) (sym none) ∙ sym (drains.gives before).waits ∙ message.waits)
         (wanted.part some)
 
@@ -132,7 +132,7 @@ module _ {L : Type 0} (of : Ghosts L) where
         pub drained_size : 4 ≤ taken - taken_first
         drained_size = let size = fed_size in let all = drains.taken in omega arith
 
-        pub drained_hears : of.tells start → Skimming skim (wire_at of start taken_first seq) (wire_at of link taken (id_behind (packets_within (taken - taken_first)) seq))
+        pub drained_hears : of.tells start → Skimming skim (wire_at of start taken_first seq) (wire_at of link taken (id_after (packets_within (taken - taken_first)) seq))
         drained_hears t =
             let size = fed_size in
             let all = drains.taken in
@@ -144,13 +144,13 @@ module _ {L : Type 0} (of : Ghosts L) where
                 stream = sym (drains.stream t) ∙ ap (λ (l : List ℕ). l ++ stream (of.told link)) fed_is;
                 place = omega arith;
                 within = inside;
-                id = ap (λ (n : ℕ). id_behind n seq) counts;
+                id = ap (λ (n : ℕ). id_after n seq) counts;
                 sent = drains.sent t;
               };
               skims = subst (λ (l : List ℕ). Skims seq 67108864 l skim) fed_is drains.skims;
             }
 
-        pub drained_delivers : IsServing of start → DeliversFront of skim start seq link (id_behind (packets_within (taken - taken_first)) seq)
+        pub drained_delivers : IsServing of start → DeliversFront of skim start seq link (id_after (packets_within (taken - taken_first)) seq)
         drained_delivers serving =
             let size = fed_size in
             let all = drains.taken in
@@ -160,7 +160,7 @@ module _ {L : Type 0} (of : Ghosts L) where
               message = read.message;
               delivers = record {
                 gives = record { alive = gives.alive; state = gives.state; waits = gives.waits ∙ ap (λ (l : List ℕ). l ++ (of.served link).waiting) fed_is };
-                id = ap (λ (n : ℕ). id_behind n seq) counts;
+                id = ap (λ (n : ℕ). id_after n seq) counts;
               };
               skims = subst (λ (l : List ℕ). Skims seq 67108864 l skim) fed_is drains.skims;
             }

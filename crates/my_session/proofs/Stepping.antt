@@ -8,22 +8,22 @@ use Rattle.honest_server.specs.Moves.{plainly}
 use Rattle.honest_server.specs.Site.{ServedSite, IsNewLink}
 use Rattle.honest_server.specs.State.{State, Phase, greeted, switching, in_session}
 use Rattle.link_traits.specs.declared.link.Link.{Ghosts}
-use Rattle.my_login.specs.Switch.{switch_of}
-use Rattle.my_login.specs.declared.switch.Switch.{Switch}
+use Rattle.wire_forms.specs.Switch.{switch_of}
+use Rattle.wire_forms.specs.declared.switch.Switch.{Switch}
 use Rattle.my_packets.proofs.Fronts.{same_packets}
-use Rattle.my_packets.specs.Packet.{packets, packet_count, id_behind}
-use Rattle.result_rows.specs.Reading.{Reading, Further, definition, row, end, refused, garbled, idle, counted, further_of, after}
-use Rattle.result_rows.specs.Reply.{reply_of}
-use Rattle.result_rows.specs.Row.{Cell}
-use Rattle.result_rows.specs.declared.refusal.Refusal.{Refusal}
-use Rattle.result_rows.specs.declared.reader.Reply.{Reply}
-use Rattle.result_rows.specs.declared.reader.Reply.TheVariants.{Done, Refused as IsRefused, Columns}
-use Rattle.sql_statements.specs.declared.form.Form.{Form}
+use Rattle.wire_forms.specs.Packet.{packets, packet_count, id_after}
+use Rattle.wire_forms.specs.Reading.{Reading, Further, definition, row, end, refused, garbled, idle, columns_counted, further_of, reading_after}
+use Rattle.wire_forms.specs.Reply.{reply_of}
+use Rattle.wire_forms.specs.Row.{Cell}
+use Rattle.wire_forms.specs.declared.refusal.Refusal.{Refusal}
+use Rattle.wire_forms.specs.declared.reply.Reply.{Reply}
+use Rattle.wire_forms.specs.declared.reply.Reply.TheVariants.{Done, Refused as IsRefused, Columns}
+use Rattle.statement_forms.specs.declared.form.Form.{Form}
 use Rattle.my_session.proofs.Decisions.{login_answer}
 use Rattle.my_session.proofs.Rests.{session_reply}
 use Rattle.my_session.specs.Awaited.{further_fault}
 use Rattle.my_session.specs.Heard.{IsDecision, Judges}
-use Rattle.my_session.specs.InStep.{Completes, ends, breaks_off, defines, has_row, Follows, WaitsRest, phase_behind, IsQuiet, DecisionWaits, ReplyWaits, IsOpen, GreetingWaits}
+use Rattle.my_session.specs.InStep.{Completes, ends, breaks_off, defines, has_row, Follows, WaitsRest, phase_after, IsQuiet, DecisionWaits, ReplyWaits, IsOpen, GreetingWaits}
 use Rattle.my_session.specs.Serving.{IsServing, Stays, MessageWaits, Delivers, DeliversReply, DeliversRefusal, Replied}
 use Rattle.my_session.specs.Session.{failed_by, ends_session}
 use Rattle.my_session.specs.declared.fault.SessionFault.{SessionFault}
@@ -35,30 +35,30 @@ use Rattle.my_session.specs.declared.login.Decision.TheVariants.{Accepted, Switc
 first_waits : (id : ℕ) (waiting first : List ℕ) (others messages : List (List ℕ)) → messages ≡ first ∷ others → waiting ≡ packets_from id messages → MessageWaits id waiting
 first_waits id waiting first others messages messages_are waits = record {
   message = first;
-  behind = packets_from (id_behind (packet_count (length first)) id) others;
+  after = packets_from (id_after (packet_count (length first)) id) others;
   waits = waits ∙ ap (λ (l : List (List ℕ)). packets_from id l) messages_are;
 }
 
--- what is left of a result set behind a message of it
-abbrev RestBehind : Reading → Further → List (List ℕ) → Type 0
-RestBehind reading definition others = Completes (after reading definition) others
-RestBehind reading (row cells) others = Completes reading others
-RestBehind reading end others = others ≡ []
-RestBehind reading (refused refusal) others = others ≡ []
-RestBehind reading garbled others = ⊥
+-- what is left of a result set after a message of it
+abbrev RestAfter : Reading → Further → List (List ℕ) → Type 0
+RestAfter reading definition others = Completes (reading_after reading definition) others
+RestAfter reading (row cells) others = Completes reading others
+RestAfter reading end others = others ≡ []
+RestAfter reading (refused refusal) others = others ≡ []
+RestAfter reading garbled others = ⊥
 
 record Begins (reading : Reading) (messages : List (List ℕ)) : Type 0 where
   first : List ℕ
   others : List (List ℕ)
   messages_are : messages ≡ first ∷ others
-  rest : RestBehind reading (further_of reading first) others
+  rest : RestAfter reading (further_of reading first) others
 
 completes_begins : (reading : Reading) (messages : List (List ℕ)) → Completes reading messages → Begins reading messages
 completes_begins reading [] completes = elim completes [ ]
-completes_begins reading (message ∷ []) (ends is) = record { first = message; others = []; messages_are = refl; rest = subst (λ (f : Further). RestBehind reading f []) (sym is) refl }
-completes_begins reading (message ∷ []) (breaks_off is) = record { first = message; others = []; messages_are = refl; rest = subst (λ (f : Further). RestBehind reading f []) (sym is) refl }
-completes_begins reading (message ∷ messages) (defines is rest) = record { first = message; others = messages; messages_are = refl; rest = subst (λ (f : Further). RestBehind reading f messages) (sym is) rest }
-completes_begins reading (message ∷ messages) (has_row is rest) = record { first = message; others = messages; messages_are = refl; rest = subst (λ (f : Further). RestBehind reading f messages) (sym is) rest }
+completes_begins reading (message ∷ []) (ends is) = record { first = message; others = []; messages_are = refl; rest = subst (λ (f : Further). RestAfter reading f []) (sym is) refl }
+completes_begins reading (message ∷ []) (breaks_off is) = record { first = message; others = []; messages_are = refl; rest = subst (λ (f : Further). RestAfter reading f []) (sym is) refl }
+completes_begins reading (message ∷ messages) (defines is rest) = record { first = message; others = messages; messages_are = refl; rest = subst (λ (f : Further). RestAfter reading f messages) (sym is) rest }
+completes_begins reading (message ∷ messages) (has_row is rest) = record { first = message; others = messages; messages_are = refl; rest = subst (λ (f : Further). RestAfter reading f messages) (sym is) rest }
 
 -- a fault at a message of a result set that doesn't end the session is an ERR
 refused_by : (form : Form) (place : ℕ) (turn : Further) (fault : SessionFault) → further_fault form place turn ≡ Some fault → ends_session fault ≡ false → (refusal : Refusal) × (turn ≡ refused refusal)
@@ -123,7 +123,7 @@ module _ {L : Type 0} (of : Ghosts L) where
           waits = replied.waits ∙ ap (λ (l : List ℕ). l ++ packets_from id replied.messages) quiet.none ∙ ap (λ (l : List (List ℕ)). packets_from id l) told.messages_are;
         }
 
-  -- the message that is heard is the first of those that wait, and the others wait behind it
+  -- the message that is heard is the first of those that wait, and the others wait after it
   module _ (old new : L) (id now : ℕ) (message : List ℕ) (delivers : Delivers of message old id new now) where
     record IsNext (first : List ℕ) (others : List (List ℕ)) : Type 0 where
       message_is : message ≡ first
@@ -131,16 +131,16 @@ module _ {L : Type 0} (of : Ghosts L) where
 
     next_is : (first : List ℕ) (others messages : List (List ℕ)) → messages ≡ first ∷ others → (of.served old).waiting ≡ packets_from id messages → IsNext first others
     next_is first others messages messages_are waits =
-        let parts = same_packets id message first (of.served new).waiting (packets_from (id_behind (packet_count (length first)) id) others) (sym delivers.gives.waits ∙ waits ∙ ap (λ (l : List (List ℕ)). packets_from id l) messages_are) in
+        let parts = same_packets id message first (of.served new).waiting (packets_from (id_after (packet_count (length first)) id) others) (sym delivers.gives.waits ∙ waits ∙ ap (λ (l : List (List ℕ)). packets_from id l) messages_are) in
         record {
           message_is = parts.0;
-          waits = parts.1 ∙ ap (λ (l : List ℕ). packets_from (id_behind (packet_count (length l)) id) others) (sym parts.0) ∙ ap (λ (n : ℕ). packets_from n others) (sym delivers.id);
+          waits = parts.1 ∙ ap (λ (l : List ℕ). packets_from (id_after (packet_count (length l)) id) others) (sym parts.0) ∙ ap (λ (n : ℕ). packets_from n others) (sym delivers.id);
         }
 
     still : (phase : Phase) → (of.served old).state.phase ≡ phase → (of.served new).state.phase ≡ phase
     still phase is = ap (λ (s : State). s.phase) delivers.gives.state ∙ is
 
-    -- behind a reply's first message
+    -- after a reply's first message
     module _ (reply : Option Reply) (reply_is : reply_of message ≡ reply) (waits : ReplyWaits of old id) where
       first : IsNext waits.is_reply.first waits.is_reply.others
       first = next_is waits.is_reply.first waits.is_reply.others waits.messages waits.is_reply.messages_are waits.waits
@@ -157,14 +157,14 @@ module _ {L : Type 0} (of : Ghosts L) where
       heard_refusal : (refusal : Refusal) → reply ≡ Some (IsRefused refusal) → IsOpen of new now idle
       heard_refusal refusal is = alone (subst (λ (r : Option Reply). Follows r waits.is_reply.others) is follows)
 
-      heard_columns : (columns : ℕ) → reply ≡ Some (Columns columns) → 0 < columns → IsOpen of new now (counted columns)
-      heard_columns columns is some = open_rest new now (counted columns) delivers.gives.alive (still in_session waits.phase) some record {
+      heard_columns : (columns : ℕ) → reply ≡ Some (Columns columns) → 0 < columns → IsOpen of new now (columns_counted columns)
+      heard_columns columns is some = open_rest new now (columns_counted columns) delivers.gives.alive (still in_session waits.phase) some record {
         messages = waits.is_reply.others;
         completes = subst (λ (r : Option Reply). Follows r waits.is_reply.others) is follows;
         waits = first.waits;
       }
 
-    -- behind a message of a result set
+    -- after a message of a result set
     module _ (reading : Reading) (some : 0 < reading.columns) (is_open : IsOpen of old id reading) where
       begun : Begins reading (is_open.rest some).messages
       begun = completes_begins reading (is_open.rest some).messages (is_open.rest some).completes
@@ -172,12 +172,12 @@ module _ {L : Type 0} (of : Ghosts L) where
       heard : IsNext begun.first begun.others
       heard = next_is begun.first begun.others (is_open.rest some).messages begun.messages_are (is_open.rest some).waits
 
-      rest : (turn : Further) → further_of reading message ≡ turn → RestBehind reading turn begun.others
-      rest turn is = subst (λ (f : Further). RestBehind reading f begun.others) (ap (λ (l : List ℕ). further_of reading l) (sym heard.message_is) ∙ is) begun.rest
+      rest : (turn : Further) → further_of reading message ≡ turn → RestAfter reading turn begun.others
+      rest turn is = subst (λ (f : Further). RestAfter reading f begun.others) (ap (λ (l : List ℕ). further_of reading l) (sym heard.message_is) ∙ is) begun.rest
 
-      pub heard_definition : (next : Reading) → next ≡ after reading definition → further_of reading message ≡ definition → IsOpen of new now next
+      pub heard_definition : (next : Reading) → next ≡ reading_after reading definition → further_of reading message ≡ definition → IsOpen of new now next
       heard_definition next next_reading is = subst (λ (r : Reading). IsOpen of new now r) (sym next_reading) (
-          open_rest new now (after reading definition) delivers.gives.alive (still in_session is_open.phase) some record { messages = begun.others; completes = rest definition is; waits = heard.waits })
+          open_rest new now (reading_after reading definition) delivers.gives.alive (still in_session is_open.phase) some record { messages = begun.others; completes = rest definition is; waits = heard.waits })
 
       pub heard_row : (next : Reading) (cells : List Cell) → next ≡ reading → further_of reading message ≡ row cells → IsOpen of new now next
       heard_row next cells same is = subst (λ (r : Reading). IsOpen of new now r) (sym same) (
@@ -192,7 +192,7 @@ module _ {L : Type 0} (of : Ghosts L) where
       pub heard_break : (next : Reading) (refusal : Refusal) → next ≡ idle → further_of reading message ≡ refused refusal → IsOpen of new now next
       heard_break next refusal is_idle is = subst (λ (r : Reading). IsOpen of new now r) (sym is_idle) (at_end (rest (refused refusal) is))
 
-    -- behind the answer to a login
+    -- after the answer to a login
     module _ (waits : DecisionWaits of old id) where
       decided : IsNext waits.message []
       decided = next_is waits.message [] (waits.message ∷ []) refl waits.waits
@@ -211,7 +211,7 @@ module _ {L : Type 0} (of : Ghosts L) where
         none = decided.waits;
       }
 
-    -- behind the greeting
+    -- after the greeting
     pub heard_greeting : id ≡ 0 → GreetingWaits of old → IsQuiet of greeted new
     heard_greeting first_id waits =
         let only = next_is waits.greeting [] (waits.greeting ∷ []) refl (waits.waits ∙ ap (λ (n : ℕ). packets n waits.greeting) (sym first_id) ∙ sym (append-nil (packets id waits.greeting))) in
@@ -229,7 +229,7 @@ module _ {L : Type 0} (of : Ghosts L) where
 
   -- what hearing the number of columns leaves
   module _ (old new : L) (id now : ℕ) (stays : Stays of old new) (waits : of.honest old → ReplyWaits of old id) (reply : Option Reply) (heard : IsServing of old → DeliversReply of reply old id new now) where
-    pub count_heard : (columns : ℕ) → reply ≡ Some (Columns columns) → 0 < columns → of.honest new → IsOpen of new now (counted columns)
+    pub count_heard : (columns : ℕ) → reply ≡ Some (Columns columns) → 0 < columns → of.honest new → IsOpen of new now (columns_counted columns)
     count_heard columns is some h =
         let before = waits (stays.honest.1 h) in
         let told = heard (record { honest = stays.honest.1 h; alive = before.alive }) in
@@ -243,7 +243,7 @@ module _ {L : Type 0} (of : Ghosts L) where
 
   -- what hearing a further message of a result set leaves
   module _ (old new : L) (id now : ℕ) (reading : Reading) (message : List ℕ) (stays : Stays of old new) (some : 0 < reading.columns) (waits : of.honest old → IsOpen of old id reading) (heard : IsServing of old → Delivers of message old id new now) where
-    pub definition_heard : (next : Reading) → next ≡ after reading definition → further_of reading message ≡ definition → of.honest new → IsOpen of new now next
+    pub definition_heard : (next : Reading) → next ≡ reading_after reading definition → further_of reading message ≡ definition → of.honest new → IsOpen of new now next
     definition_heard next next_is is h =
         let before = waits (stays.honest.1 h) in
         heard_definition old new id now message (heard (record { honest = stays.honest.1 h; alive = before.alive })) reading some before next next_is is
@@ -268,7 +268,7 @@ module _ {L : Type 0} (of : Ghosts L) where
   pub greeting_comes : (link : L) (id : ℕ) → id ≡ 0 → (IsServing of link → GreetingWaits of link) → IsServing of link → MessageWaits id (of.served link).waiting
   greeting_comes link id first_id waits serving =
       let greeting = waits serving in
-      record { message = greeting.greeting; behind = []; waits = greeting.waits ∙ sym (append-nil (packets 0 greeting.greeting)) ∙ ap (λ (n : ℕ). packets n greeting.greeting ++ []) (sym first_id) }
+      record { message = greeting.greeting; after = []; waits = greeting.waits ∙ sym (append-nil (packets 0 greeting.greeting)) ∙ ap (λ (n : ℕ). packets n greeting.greeting ++ []) (sym first_id) }
 
   pub greeting_heard : (old new : L) (id now : ℕ) (message : List ℕ) → id ≡ 0 → (IsServing of old → GreetingWaits of old) → (of.honest old → (of.served old).failed ≡ false) → (IsServing of old → Delivers of message old id new now) → of.honest old → IsQuiet of greeted new
   greeting_heard old new id now message first_id waits alive heard h =
@@ -277,7 +277,7 @@ module _ {L : Type 0} (of : Ghosts L) where
 
   -- what hearing the answer to a login leaves
   module _ (old new : L) (id now : ℕ) (stays : Stays of old new) (waits : of.honest old → DecisionWaits of old id) where
-    pub decision_heard : (message payload : List ℕ) (Not : SessionFault → Type 0) (result : Result Decision SessionFault) → (IsServing of old → Delivers of message old id new now) → payload ≡ message → MatchResult result (λ found. IsDecision found payload) Not → IfOk result (λ found. of.honest new → IsQuiet of (phase_behind found) new)
+    pub decision_heard : (message payload : List ℕ) (Not : SessionFault → Type 0) (result : Result Decision SessionFault) → (IsServing of old → Delivers of message old id new now) → payload ≡ message → MatchResult result (λ found. IsDecision found payload) Not → IfOk result (λ found. of.honest new → IsQuiet of (phase_after found) new)
     decision_heard message payload Not (Ok Accepted) hears is judged = λ h.
         let before = waits (stays.honest.1 h) in
         heard_accepted old new id now message (hears (record { honest = stays.honest.1 h; alive = before.alive })) before (ap (λ (l : List ℕ). reply_of l) (sym is) ∙ judged)

@@ -5,21 +5,21 @@ use Rattle.grammar.specs.Language.{Then, Fixed}
 use Rattle.honest_server.specs.Exchange.{query_payload}
 use Rattle.object_texts.proofs.HeadPlaces.{no-head}
 use Rattle.object_texts.proofs.Tokens.{tokens-cons}
-use Rattle.object_texts.specs.Head.{HasHead, head_in, kind_in, named}
-use Rattle.object_texts.specs.Token.{Token, first_token, is_word}
-use Rattle.sql_statements.specs.Form.{command_form}
-use Rattle.sql_statements.specs.Insert.{AnyInsert}
-use Rattle.sql_statements.specs.Statement.{CommandHasText}
-use Rattle.sql_statements.specs.Text.{command_text, query_text}
-use Rattle.sql_statements.specs.declared.command.Command.{Command}
-use Rattle.sql_statements.specs.declared.command.Command.TheVariants.{SetUp, NamesUtf8mb4, NamesBinary, ForeignKeyChecksOff, TimeZoneUtc, BinaryLogOff, SqlMode, CharacterSetClient, CollationConnection, RepeatableRead, LockInstance, FlushTables, UnlockTables, UnlockInstance, StartSnapshot, Start, Commit, Rollback, Use, Create, CreateProgress, CreateProgressFiles, CreateProgressDump, Insert, InsertProgressFile, InsertProgressDump}
-use Rattle.sql_statements.specs.declared.form.Form.TheVariants.{Create as CreateForm}
-use Rattle.sql_statements.specs.declared.query.Query.{Query}
-use Rattle.sql_statements.specs.declared.query.Query.TheVariants.{MasterStatus, Schemas, Tables, Columns, PrimaryKey, Triggers, Routines, ViewNeeds, CreateDatabase, CreateTable, CreateView, CreateProcedure, CreateFunction, CreateTrigger, Key, KeyAbove, Rows, RowsByKey, RowsAbove, RowsUpTo, RowsBetween, ProgressDump, ProgressFiles}
+use Rattle.object_forms.specs.Head.{HasHead, head_in, kind_in, making_after}
+use Rattle.object_forms.specs.Token.{Token, first_token, is_word}
+use Rattle.statement_forms.specs.Form.{command_form}
+use Rattle.statement_forms.specs.Insert.{AnyInsert}
+use Rattle.statement_forms.specs.Statement.{CommandHasText}
+use Rattle.statement_forms.specs.Text.{command_text, query_text}
+use Rattle.statement_forms.specs.declared.command.Command.{Command}
+use Rattle.statement_forms.specs.declared.command.Command.TheVariants.{SetUp, NamesUtf8mb4, NamesBinary, ForeignKeyChecksOff, TimeZoneUtc, BinaryLogOff, SqlMode, CharacterSetClient, CollationConnection, RepeatableRead, LockInstance, FlushTables, UnlockTables, UnlockInstance, StartSnapshot, Start, Commit, Rollback, Use, Create, CreateProgress, CreateProgressFiles, CreateProgressDump, Insert, InsertProgressFile, InsertProgressDump}
+use Rattle.statement_forms.specs.declared.form.Form.TheVariants.{Create as CreateForm}
+use Rattle.statement_forms.specs.declared.query.Query.{Query}
+use Rattle.statement_forms.specs.declared.query.Query.TheVariants.{MasterStatus, Schemas, Tables, Columns, PrimaryKey, Triggers, Routines, ViewNeeds, CreateDatabase, CreateTable, CreateView, CreateProcedure, CreateFunction, CreateTrigger, Key, KeyAbove, Rows, RowsByKey, RowsAbove, RowsUpTo, RowsBetween, ProgressDump, ProgressFiles}
 use Rattle.my_session.specs.InStep.{MakesNothing}
 use Rattle.my_session.specs.Serving.{MakesNoObject}
 
-headless : (test : Bool) (rest : List Token) → test ≡ false → is_some (option_and_then named (option_and_then kind_in (if test then Some rest else None))) ≡ false
+headless : (test : Bool) (rest : List Token) → test ≡ false → is_some (option_and_then making_after (option_and_then kind_in (if test then Some rest else None))) ≡ false
 headless true rest is = absurd (cc)
 headless false rest is = refl
 

@@ -1,17 +1,17 @@
 -- What a session awaits, and what it answers to a message that it can't go on at.
 use Rattle.std.specs.Prelude.{ℕ, List, Option, Some, None, Result, Ok, Err}
-use Rattle.my_login.specs.Greeting.{greeting_of}
-use Rattle.my_login.specs.Switch.{switch_of}
-use Rattle.my_login.specs.declared.fault.LoginFault.{LoginFault}
-use Rattle.my_login.specs.declared.fault.LoginFault.TheVariants.{NotProtocol10 as NotTen, PluginUnsupported as Unsupported, Refused as LoginRefused, Garbled as LoginGarbled}
-use Rattle.my_login.specs.declared.greeting.Greeting.{Greeting}
-use Rattle.my_login.specs.declared.switch.Switch.{Switch}
-use Rattle.result_rows.specs.Reading.{Reading, Further, definition, row, end, refused, garbled, further_of}
-use Rattle.result_rows.specs.Reply.{reply_of}
-use Rattle.result_rows.specs.declared.reader.Reply.{Reply}
-use Rattle.result_rows.specs.declared.reader.Reply.TheVariants.{Done, Refused as IsRefused, Columns}
-use Rattle.sql_statements.specs.declared.form.Form.{Form}
-use Rattle.sql_statements.specs.declared.form.Form.TheVariants.{Connect}
+use Rattle.wire_forms.specs.Greeting.{greeting_of}
+use Rattle.wire_forms.specs.Switch.{switch_of}
+use Rattle.wire_forms.specs.declared.login_fault.LoginFault.{LoginFault}
+use Rattle.wire_forms.specs.declared.login_fault.LoginFault.TheVariants.{NotProtocol10 as NotTen, PluginUnsupported as Unsupported, Refused as LoginRefused, Garbled as LoginGarbled}
+use Rattle.wire_forms.specs.declared.greeting.Greeting.{Greeting}
+use Rattle.wire_forms.specs.declared.switch.Switch.{Switch}
+use Rattle.wire_forms.specs.Reading.{Reading, Further, definition, row, end, refused, garbled, further_of}
+use Rattle.wire_forms.specs.Reply.{reply_of}
+use Rattle.wire_forms.specs.declared.reply.Reply.{Reply}
+use Rattle.wire_forms.specs.declared.reply.Reply.TheVariants.{Done, Refused as IsRefused, Columns}
+use Rattle.statement_forms.specs.declared.form.Form.{Form}
+use Rattle.statement_forms.specs.declared.form.Form.TheVariants.{Connect}
 use Rattle.my_session.specs.declared.fault.SessionFault.{SessionFault}
 use Rattle.my_session.specs.declared.fault.SessionFault.TheVariants.{Refused, Garbled, NotProtocol10, PluginUnsupported}
 
@@ -61,7 +61,7 @@ count_fault form place (Some (IsRefused refusal)) = Some (Refused form refusal)
 count_fault form place (Some (Columns columns)) = None
 count_fault form place None = Some (Garbled place)
 
--- a column definition, the EOF behind the definitions, a row, the end, or an ERR in a row's place
+-- a column definition, the EOF after the definitions, a row, the end, or an ERR in a row's place
 abbrev pub further_fault : Form → ℕ → Further → Option SessionFault
 further_fault form place definition = None
 further_fault form place (row cells) = None

@@ -61,8 +61,8 @@ Unsaid payload old (TooLong size) new = (size ≡ length payload) × (MESSAGE_LI
 Unsaid payload old StreamTooLong new = ⊥
 Unsaid payload old OutOfMemory new = Silent old new
 
--- a conversation stopped behind some of its steps, where the first relation says behind which steps it awaits what, and the
--- second behind which it sends what
+-- a conversation stopped after some of its steps, where the first relation says after which steps it awaits what, and the
+-- second after which it sends what
 pub data Stops (Awaits : List Step → Awaited → Type 0) (Sends : List Step → List ℕ → Type 0) (old : Wire) (fault : SessionFault) (new : Wire) : Type 0 where
   at_message : {steps : List Step} {awaited : Awaited} {middle : Wire} → Awaits steps awaited → Leads steps old middle → Halts awaited middle fault new → Stops Awaits Sends old fault new
   at_payload : {steps : List Step} {payload : List ℕ} {middle : Wire} → Sends steps payload → Leads steps old middle → Unsaid payload middle fault new → Stops Awaits Sends old fault new

@@ -1,15 +1,15 @@
 -- What was heard, where a session goes on.
 use Rattle.std.specs.Prelude.{ℕ, ◌≡◌, ◌<◌, Bool, true, false, List, [], ◌∷◌, ◌++◌, Option, Some, None, Result, Ok, Err}
-use Rattle.my_login.specs.Greeting.{greeting_of}
-use Rattle.my_login.specs.Switch.{switch_of}
-use Rattle.my_login.specs.declared.greeting.Greeting.{Greeting}
-use Rattle.my_login.specs.declared.switch.Switch.{Switch}
-use Rattle.result_rows.specs.Reading.{Reading, definition, row, end, idle, counted, further_of}
-use Rattle.result_rows.specs.Reply.{reply_of}
-use Rattle.result_rows.specs.declared.reader.Reply.{Reply}
-use Rattle.result_rows.specs.declared.reader.Reply.TheVariants.{Done, Refused, Columns}
-use Rattle.result_rows.specs.Row.{Cell, cells_of}
-use Rattle.sql_statements.specs.declared.form.Form.{Form}
+use Rattle.wire_forms.specs.Greeting.{greeting_of}
+use Rattle.wire_forms.specs.Switch.{switch_of}
+use Rattle.wire_forms.specs.declared.greeting.Greeting.{Greeting}
+use Rattle.wire_forms.specs.declared.switch.Switch.{Switch}
+use Rattle.wire_forms.specs.Reading.{Reading, definition, row, end, idle, columns_counted, further_of}
+use Rattle.wire_forms.specs.Reply.{reply_of}
+use Rattle.wire_forms.specs.declared.reply.Reply.{Reply}
+use Rattle.wire_forms.specs.declared.reply.Reply.TheVariants.{Done, Refused, Columns}
+use Rattle.wire_forms.specs.Row.{Cell, cells_of}
+use Rattle.statement_forms.specs.declared.form.Form.{Form}
 use Rattle.my_session.specs.Awaited.{decision, fault_at, further_fault}
 use Rattle.my_session.specs.Login.{IsGreeted}
 use Rattle.my_session.specs.Wire.{Wire, Step, hears, Hears}
@@ -23,12 +23,12 @@ pub record HearsReply (reply : Option Reply) (old new : Wire) : Type 0 where
   pub heard : Hears message old new
   pub reply_is : reply_of message ≡ reply
 
--- where a reader is behind a reply's first message
+-- where a reader is after a reply's first message
 abbrev pub reading_of : Option Reply → Reading
 reading_of None = idle
 reading_of (Some Done) = idle
 reading_of (Some (Refused refusal)) = idle
-reading_of (Some (Columns columns)) = counted columns
+reading_of (Some (Columns columns)) = columns_counted columns
 
 -- a result set has from 1 to 65,535 columns
 abbrev pub HasColumns : Option Reply → Type 0
@@ -63,7 +63,7 @@ pub record IsAskedToSwitch (user password : List ℕ) (found : Switch) (steps : 
   pub read : switch_of message ≡ Ok found
   pub steps_are : steps ≡ before ++ hears message ∷ []
 
--- a column definition was heard, or the EOF behind the definitions
+-- a column definition was heard, or the EOF after the definitions
 pub record HearsDefinition (reading : Reading) (old new : Wire) : Type 0 where
   pub message : List ℕ
   pub heard : Hears message old new
@@ -75,12 +75,12 @@ pub record IsRowOf (reading : Reading) (message : List ℕ) : Type 0 where
   pub cells_are : cells_of reading.columns message ≡ Some cells
   pub is : further_of reading message ≡ row cells
 
--- whether a message in the place of a row is one, or else the end, and where the reader is behind it
-abbrev pub IsBehindRow : Reading → List ℕ → Bool → Reading → Type 0
-IsBehindRow old message true new = IsRowOf old message × (new ≡ old)
-IsBehindRow old message false new = (further_of old message ≡ end) × (new ≡ idle)
+-- whether a message in the place of a row is one, or else the end, and where the reader is after it
+abbrev pub IsAfterRow : Reading → List ℕ → Bool → Reading → Type 0
+IsAfterRow old message true new = IsRowOf old message × (new ≡ old)
+IsAfterRow old message false new = (further_of old message ≡ end) × (new ≡ idle)
 
--- what is answered to a message in the place of a row, which began at this place, and where the reader is behind it
+-- what is answered to a message in the place of a row, which began at this place, and where the reader is after it
 abbrev pub Judges : Reading → Form → List ℕ → ℕ → Result Bool SessionFault → Reading → Type 0
-Judges old form message place (Ok is_row) new = IsBehindRow old message is_row new
+Judges old form message place (Ok is_row) new = IsAfterRow old message is_row new
 Judges old form message place (Err fault) new = (further_fault form place (further_of old message) ≡ Some fault) × (new ≡ idle)

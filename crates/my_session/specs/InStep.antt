@@ -3,18 +3,18 @@ use Rattle.std.specs.Prelude.{ℕ, ◌≡◌, ◌<◌, false, List, [], ◌∷�
 use Rattle.honest_server.specs.Exchange.{IsGreeting, packets_from}
 use Rattle.honest_server.specs.State.{Phase, greeted, switching, in_session}
 use Rattle.link_traits.specs.declared.link.Link.{Ghosts}
-use Rattle.my_login.specs.Switch.{switch_of}
-use Rattle.my_login.specs.declared.switch.Switch.{Switch}
-use Rattle.my_packets.specs.Packet.{packets}
-use Rattle.object_texts.specs.Head.{HasHead}
-use Rattle.result_rows.specs.Reading.{Reading, definition, row, end, refused, counted, further_of, after}
-use Rattle.result_rows.specs.Reply.{reply_of}
-use Rattle.result_rows.specs.Row.{Cell}
-use Rattle.result_rows.specs.declared.reader.Reply.{Reply}
-use Rattle.result_rows.specs.declared.reader.Reply.TheVariants.{Done, Refused, Columns}
-use Rattle.result_rows.specs.declared.refusal.Refusal.{Refusal}
-use Rattle.sql_statements.specs.Text.{command_text}
-use Rattle.sql_statements.specs.declared.command.Command.{Command}
+use Rattle.wire_forms.specs.Switch.{switch_of}
+use Rattle.wire_forms.specs.declared.switch.Switch.{Switch}
+use Rattle.wire_forms.specs.Packet.{packets}
+use Rattle.object_forms.specs.Head.{HasHead}
+use Rattle.wire_forms.specs.Reading.{Reading, definition, row, end, refused, columns_counted, further_of, reading_after}
+use Rattle.wire_forms.specs.Reply.{reply_of}
+use Rattle.wire_forms.specs.Row.{Cell}
+use Rattle.wire_forms.specs.declared.reply.Reply.{Reply}
+use Rattle.wire_forms.specs.declared.reply.Reply.TheVariants.{Done, Refused, Columns}
+use Rattle.wire_forms.specs.declared.refusal.Refusal.{Refusal}
+use Rattle.statement_forms.specs.Text.{command_text}
+use Rattle.statement_forms.specs.declared.command.Command.{Command}
 use Rattle.my_session.specs.Session.{SessionView}
 use Rattle.my_session.specs.declared.login.Decision.{Decision}
 use Rattle.my_session.specs.declared.login.Decision.TheVariants.{Accepted, Switched}
@@ -23,7 +23,7 @@ use Rattle.my_session.specs.declared.login.Decision.TheVariants.{Accepted, Switc
 pub data Completes : Reading → List (List ℕ) → Type 0 where
   ends : {reading : Reading} {message : List ℕ} → further_of reading message ≡ end → Completes reading (message ∷ [])
   breaks_off : {reading : Reading} {message : List ℕ} {refusal : Refusal} → further_of reading message ≡ refused refusal → Completes reading (message ∷ [])
-  defines : {reading : Reading} {message : List ℕ} {messages : List (List ℕ)} → further_of reading message ≡ definition → Completes (after reading definition) messages → Completes reading (message ∷ messages)
+  defines : {reading : Reading} {message : List ℕ} {messages : List (List ℕ)} → further_of reading message ≡ definition → Completes (reading_after reading definition) messages → Completes reading (message ∷ messages)
   has_row : {reading : Reading} {message : List ℕ} {messages : List (List ℕ)} {cells : List Cell} → further_of reading message ≡ row cells → Completes reading messages → Completes reading (message ∷ messages)
 
 -- the packets of the rest of a result set wait, from this id on
@@ -32,12 +32,12 @@ pub record WaitsRest (reading : Reading) (id : ℕ) (waiting : List ℕ) : Type 
   pub completes : Completes reading messages
   pub waits : waiting ≡ packets_from id messages
 
--- what follows a reply's first message: nothing behind an OK or an ERR
+-- what follows a reply's first message: nothing after an OK or an ERR
 abbrev pub Follows : Option Reply → List (List ℕ) → Type 0
 Follows None others = ⊥
 Follows (Some Done) others = others ≡ []
 Follows (Some (Refused refusal)) others = others ≡ []
-Follows (Some (Columns columns)) others = Completes (counted columns) others
+Follows (Some (Columns columns)) others = Completes (columns_counted columns) others
 
 -- the messages are a whole reply
 pub record IsReply (messages : List (List ℕ)) : Type 0 where
@@ -46,10 +46,10 @@ pub record IsReply (messages : List (List ℕ)) : Type 0 where
   pub messages_are : messages ≡ first ∷ others
   pub follows : Follows (reply_of first) others
 
--- where a link is behind a decision
-abbrev pub phase_behind : Decision → Phase
-phase_behind Accepted = in_session
-phase_behind (Switched found) = switching
+-- where a link is after a decision
+abbrev pub phase_after : Decision → Phase
+phase_after Accepted = in_session
+phase_after (Switched found) = switching
 
 module _ {L : Type 0} (of : Ghosts L) where
   -- a link in this phase, on which nothing waits

@@ -1,16 +1,16 @@
 -- Logging in (MySQL source documentation, "Connection Phase", Protocol::AuthSwitchRequest, Protocol::AuthSwitchResponse).
 use Rattle.std.specs.Prelude.{ℕ, ◌≡◌, ◌⊎◌, List, [], ◌∷◌, ◌++◌, Option, Some, None, Ok}
-use Rattle.my_login.specs.Greeting.{greeting_of}
-use Rattle.my_login.specs.Answer.{native_answer}
-use Rattle.my_login.specs.Response.{response}
-use Rattle.my_login.specs.Switch.{switch_of}
-use Rattle.my_login.specs.declared.greeting.Greeting.{Greeting}
-use Rattle.my_login.specs.declared.switch.Switch.{Switch}
-use Rattle.result_rows.specs.Reply.{reply_of}
-use Rattle.result_rows.specs.declared.reader.Reply.TheVariants.{Done}
-use Rattle.sql_statements.specs.Text.{command_text}
-use Rattle.sql_statements.specs.declared.command.Command.TheVariants.{SetUp}
-use Rattle.sql_statements.specs.declared.form.Form.TheVariants.{Connect, Set}
+use Rattle.wire_forms.specs.Greeting.{greeting_of}
+use Rattle.wire_forms.specs.Answer.{native_answer}
+use Rattle.wire_forms.specs.Response.{response}
+use Rattle.wire_forms.specs.Switch.{switch_of}
+use Rattle.wire_forms.specs.declared.greeting.Greeting.{Greeting}
+use Rattle.wire_forms.specs.declared.switch.Switch.{Switch}
+use Rattle.wire_forms.specs.Reply.{reply_of}
+use Rattle.wire_forms.specs.declared.reply.Reply.TheVariants.{Done}
+use Rattle.statement_forms.specs.Text.{command_text}
+use Rattle.statement_forms.specs.declared.command.Command.TheVariants.{SetUp}
+use Rattle.statement_forms.specs.declared.form.Form.TheVariants.{Connect, Set}
 use Rattle.my_session.specs.Awaited.{Awaited, greeting, decision, done, fault_at}
 use Rattle.my_session.specs.Statements.{query_payload}
 use Rattle.my_session.specs.Wire.{Step, commands, answers, hears}
@@ -64,7 +64,7 @@ pub record IsSettingUp (user password : List ℕ) (steps : List Step) : Type 0 w
   pub accepted : IsAccepted user password before
   pub steps_are : steps ≡ before ++ commands (query_payload (command_text SetUp)) ∷ []
 
--- what a login awaits behind these steps
+-- what a login awaits after these steps
 pub data LoginAwaits (user password : List ℕ) (steps : List Step) : Awaited → Type 0 where
   a_greeting : steps ≡ [] → LoginAwaits user password steps greeting
   a_decision : IsGreeted user password steps → LoginAwaits user password steps decision
@@ -90,7 +90,7 @@ pub record AnswersSwitch (user password : List ℕ) (steps : List Step) (payload
   pub steps_are : steps ≡ before ++ hears message ∷ []
   pub payload_is : payload ≡ switch_answer (password_answer password found.scramble)
 
--- what a login sends behind these steps
+-- what a login sends after these steps
 pub data LoginSends (user password : List ℕ) (steps : List Step) (payload : List ℕ) : Type 0 where
   the_response : AnswersGreeting user password steps payload → LoginSends user password steps payload
   the_switch_answer : AnswersSwitch user password steps payload → LoginSends user password steps payload

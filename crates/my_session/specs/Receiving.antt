@@ -53,9 +53,9 @@ Unsettled frames began (TooLong size) = IsTooLong frames.limit frames.id size fr
 Unsettled frames began StreamTooLong = ⊥
 Unsettled frames began OutOfMemory = ⊥
 
--- the bytes hold no message, or a message and nothing behind it
+-- the bytes hold no message, or a message and nothing after it
 pub record IsExact (limit id : ℕ) (bytes : List ℕ) : Type 0 where
-  pub ends : (message behind : List ℕ) → HasMessage limit id message bytes behind → behind ≡ []
+  pub ends : (message after : List ℕ) → HasMessage limit id message bytes after → after ≡ []
 
 -- the bytes of a reader are those that were taken off a link since then
 pub record Gathers {L : Type 0} (of : Ghosts L) (old new : L) (before now : Unread) (taken_before taken_now : ℕ) : Type 0 where

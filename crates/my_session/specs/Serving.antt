@@ -3,20 +3,20 @@ use Rattle.std.specs.Prelude.{ℕ, ◌≡◌, ◌↔◌, false, List, ◌++◌, 
 use Rattle.honest_server.specs.Exchange.{Replies, packets_from, query_payload}
 use Rattle.honest_server.specs.Moves.{plainly}
 use Rattle.link_traits.specs.declared.link.Link.{Ghosts}
-use Rattle.my_packets.specs.Packet.{packets, packet_count, id_behind}
+use Rattle.wire_forms.specs.Packet.{packets, packet_count, id_after}
 use Rattle.my_packets.specs.Skimmed.{Skimmed as SkimmedView}
 use Rattle.my_packets.specs.Skims.{Skims}
-use Rattle.object_texts.specs.Head.{HasHead}
-use Rattle.result_rows.specs.Reply.{reply_of}
-use Rattle.result_rows.specs.declared.refusal.Refusal.{Refusal}
-use Rattle.result_rows.specs.declared.reader.Reply.{Reply}
-use Rattle.result_rows.specs.declared.reader.Reply.TheVariants.{Refused}
+use Rattle.object_forms.specs.Head.{HasHead}
+use Rattle.wire_forms.specs.Reply.{reply_of}
+use Rattle.wire_forms.specs.declared.refusal.Refusal.{Refusal}
+use Rattle.wire_forms.specs.declared.reply.Reply.{Reply}
+use Rattle.wire_forms.specs.declared.reply.Reply.TheVariants.{Refused}
 
 -- a whole message waits, whose packets begin with this id
 pub record MessageWaits (id : ℕ) (waiting : List ℕ) : Type 0 where
   pub message : List ℕ
-  pub behind : List ℕ
-  pub waits : waiting ≡ packets id message ++ behind
+  pub after : List ℕ
+  pub waits : waiting ≡ packets id message ++ after
 
 -- the payload isn't that of an object's text
 abbrev pub MakesNoObject : List ℕ → Type 0
@@ -41,10 +41,10 @@ module _ {L : Type 0} (of : Ghosts L) where
     pub state : (of.served new).state ≡ (of.served old).state
     pub waits : (of.served old).waiting ≡ bytes ++ (of.served new).waiting
 
-  -- those of a message, behind which the next packet has this id
+  -- those of a message, after which the next packet has this id
   pub record Delivers (message : List ℕ) (old : L) (id_before : ℕ) (new : L) (id_now : ℕ) : Type 0 where
     pub gives : Gives (packets id_before message) old new
-    pub id : id_now ≡ id_behind (packet_count (length message)) id_before
+    pub id : id_now ≡ id_after (packet_count (length message)) id_before
 
   -- those of a message of which a skim kept the front
   pub record DeliversFront (skim : SkimmedView) (old : L) (id_before : ℕ) (new : L) (id_now : ℕ) : Type 0 where

@@ -3,13 +3,13 @@ use Rattle.std.specs.Prelude.{ℕ, ◌≡◌, ◌≤◌, ◌↔◌, ◌⊎◌, B
 use Rattle.link_traits.specs.Cause.{Rose}
 use Rattle.link_traits.specs.Link.{stream}
 use Rattle.link_traits.specs.declared.link.Link.{Ghosts}
-use Rattle.result_rows.specs.Reading.{Reading, row, end, idle, further_of}
+use Rattle.wire_forms.specs.Reading.{Reading, row, end, idle, further_of}
 use Rattle.result_rows.specs.RowCells.{row_cells}
 use Rattle.result_rows.specs.declared.row.Row.{Row}
-use Rattle.sql_statements.specs.Form.{query_form}
-use Rattle.sql_statements.specs.declared.command.Command.{Command}
-use Rattle.sql_statements.specs.declared.form.Form.{Form}
-use Rattle.sql_statements.specs.declared.query.Query.{Query}
+use Rattle.statement_forms.specs.Form.{query_form}
+use Rattle.statement_forms.specs.declared.command.Command.{Command}
+use Rattle.statement_forms.specs.declared.form.Form.{Form}
+use Rattle.statement_forms.specs.declared.query.Query.{Query}
 use Rattle.my_session.specs.Awaited.{further}
 use Rattle.my_session.specs.Halt.{Halts, Stops}
 use Rattle.my_session.specs.Statements.{IsRun, RunAwaits, RunSends, IsDescribed, QueryAwaits, QuerySends}
@@ -49,7 +49,7 @@ abbrev pub ends_session : SessionFault → Bool
 ends_session (Refused form refusal) = false
 ends_session fault = true
 
--- whether a session has failed behind a call
+-- whether a session has failed after a call
 abbrev pub failed_by : {A : Type 0} → Result A SessionFault → Bool
 failed_by (Ok answer) = false
 failed_by (Err fault) = ends_session fault
@@ -75,10 +75,10 @@ abbrev pub Asks : Query → Wire → Result ℕ SessionFault → Wire → Type 0
 Asks query old (Ok columns) new = Takes (λ steps. IsDescribed query steps (rows_of columns)) old new
 Asks query old (Err fault) new = Stops (QueryAwaits query) (QuerySends query) old fault new
 
--- what is pending behind a query
-abbrev pub PendingBehind : Query → Result ℕ SessionFault → Pending → Type 0
-PendingBehind query (Ok columns) pending = pending ≡ record { reading = rows_of columns; form = query_form query }
-PendingBehind query (Err fault) pending = pending.reading ≡ idle
+-- what is pending after a query
+abbrev pub PendingAfter : Query → Result ℕ SessionFault → Pending → Type 0
+PendingAfter query (Ok columns) pending = pending ≡ record { reading = rows_of columns; form = query_form query }
+PendingAfter query (Err fault) pending = pending.reading ≡ idle
 
 -- the next message was heard and is a row with these cells
 pub record HearsRow (reading : Reading) (found : Row) (old new : Wire) : Type 0 where
@@ -99,11 +99,11 @@ TakesRow pending old (Ok (Some found)) new = HearsRow pending.reading found old 
 TakesRow pending old (Ok None) new = HearsEnd pending.reading old new
 TakesRow pending old (Err fault) new = Halts (further pending.form pending.reading) old fault new
 
--- what is pending behind it
-abbrev pub PendingBehindRow : Pending → Result (Option Row) SessionFault → Pending → Type 0
-PendingBehindRow old (Ok (Some found)) new = new ≡ old
-PendingBehindRow old (Ok None) new = new.reading ≡ idle
-PendingBehindRow old (Err fault) new = new.reading ≡ idle
+-- what is pending after it
+abbrev pub PendingAfterRow : Pending → Result (Option Row) SessionFault → Pending → Type 0
+PendingAfterRow old (Ok (Some found)) new = new ≡ old
+PendingAfterRow old (Ok None) new = new.reading ≡ idle
+PendingAfterRow old (Err fault) new = new.reading ≡ idle
 
 -- a row and the end of the rows take bytes off the link, whether it tells or not
 abbrev pub MovesOn : ℕ → Result (Option Row) SessionFault → ℕ → Type 0
@@ -122,7 +122,7 @@ pub record NextRow (tells : Type 0) (old : ReaderView) (result : Result (Option 
   pub still : tells ↔ tells_still
   pub counted : IsCounted old.faults new.faults result
   pub has_failed : new.has_failed ≡ failed_by result
-  pub pending : PendingBehindRow old.pending result new.pending
+  pub pending : PendingAfterRow old.pending result new.pending
   pub onward : MovesOn old.wire.place result new.wire.place
   pub takes : tells → TakesRow old.pending old.wire result new.wire
 

@@ -1,15 +1,15 @@
 -- Statements and their replies (MySQL source documentation, COM_QUERY, COM_QUERY Response, ProtocolText::Resultset).
 use Rattle.std.specs.Prelude.{ℕ, ◌≡◌, ◌+◌, ◌-◌, List, [], ◌∷◌, ◌++◌, length, map, replicate, Some}
-use Rattle.result_rows.specs.Reading.{Reading, definition, counted}
-use Rattle.result_rows.specs.Reply.{reply_of}
-use Rattle.result_rows.specs.ResultSet.{taken}
-use Rattle.result_rows.specs.declared.reader.Reply.TheVariants.{Done, Columns}
-use Rattle.sql_statements.specs.Form.{command_form, query_form}
-use Rattle.sql_statements.specs.Text.{command_text, query_text}
-use Rattle.sql_statements.specs.declared.command.Command.{Command}
-use Rattle.sql_statements.specs.declared.command.Command.TheVariants.{Use}
-use Rattle.sql_statements.specs.declared.query.Query.{Query}
-use Rattle.sql_statements.specs.declared.query.Query.TheVariants.{CreateTable, CreateView, CreateProcedure, CreateFunction, CreateTrigger}
+use Rattle.wire_forms.specs.Reading.{Reading, definition, columns_counted}
+use Rattle.wire_forms.specs.Reply.{reply_of}
+use Rattle.wire_forms.specs.ResultSet.{turns_of}
+use Rattle.wire_forms.specs.declared.reply.Reply.TheVariants.{Done, Columns}
+use Rattle.statement_forms.specs.Form.{command_form, query_form}
+use Rattle.statement_forms.specs.Text.{command_text, query_text}
+use Rattle.statement_forms.specs.declared.command.Command.{Command}
+use Rattle.statement_forms.specs.declared.command.Command.TheVariants.{Use}
+use Rattle.statement_forms.specs.declared.query.Query.{Query}
+use Rattle.statement_forms.specs.declared.query.Query.TheVariants.{CreateTable, CreateView, CreateProcedure, CreateFunction, CreateTrigger}
 use Rattle.my_session.specs.Awaited.{Awaited, done, count, further}
 use Rattle.my_session.specs.Wire.{Step, commands, hears}
 
@@ -27,11 +27,11 @@ pub record IsRun (command : Command) (steps : List Step) : Type 0 where
   pub said_ok : reply_of message ≡ Some Done
   pub steps_are : steps ≡ commands (command_payload command) ∷ hears message ∷ []
 
--- what running a command awaits behind these steps
+-- what running a command awaits after these steps
 pub data RunAwaits (command : Command) (steps : List Step) : Awaited → Type 0 where
   an_ok : steps ≡ commands (command_payload command) ∷ [] → RunAwaits command steps (done (command_form command))
 
--- what it sends behind these steps
+-- what it sends after these steps
 pub record RunSends (command : Command) (steps : List Step) (payload : List ℕ) : Type 0 where
   pub steps_are : steps ≡ []
   pub payload_is : payload ≡ command_payload command
@@ -67,7 +67,7 @@ pub record IsAsked (query : Query) (steps : List Step) : Type 0 where
   pub led : IsLed query before
   pub steps_are : steps ≡ before ++ commands (query_payload (query_text query)) ∷ []
 
--- the number of columns was heard, and so many of the messages behind it, column definitions and their EOF, that the reader is here
+-- the number of columns was heard, and so many of the messages after it, column definitions and their EOF, that the reader is here
 pub record IsDescribed (query : Query) (steps : List Step) (reading : Reading) : Type 0 where
   pub before : List Step
   pub asked : IsAsked query before
@@ -75,17 +75,17 @@ pub record IsDescribed (query : Query) (steps : List Step) (reading : Reading) :
   pub others : List (List ℕ)
   pub columns : ℕ
   pub reply : reply_of first ≡ Some (Columns columns)
-  pub turns : taken (counted columns) others ≡ replicate (length others) definition
+  pub turns : turns_of (columns_counted columns) others ≡ replicate (length others) definition
   pub reading_is : reading ≡ record { columns = columns; awaited = columns + 1 - length others }
   pub steps_are : steps ≡ before ++ hears first ∷ map (λ message. hears message) others
 
--- what asking a query awaits behind these steps
+-- what asking a query awaits after these steps
 pub data QueryAwaits (query : Query) (steps : List Step) : Awaited → Type 0 where
   a_lead : {awaited : Awaited} → LeadAwaits query steps awaited → QueryAwaits query steps awaited
   a_count : IsAsked query steps → QueryAwaits query steps (count (query_form query))
   a_definition : {reading : Reading} → IsDescribed query steps reading → QueryAwaits query steps (further (query_form query) reading)
 
--- what it sends behind these steps
+-- what it sends after these steps
 pub data QuerySends (query : Query) (steps : List Step) (payload : List ℕ) : Type 0 where
   the_lead : LeadSends query steps payload → QuerySends query steps payload
   the_query : IsLed query steps → payload ≡ query_payload (query_text query) → QuerySends query steps payload

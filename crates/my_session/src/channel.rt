@@ -5,7 +5,7 @@ ghost use Rattle.honest_server.specs.Exchange.{BeginsAt, IsWholeMessage};
 ghost use Rattle.honest_server.specs.Moves.{plainly};
 ghost use Rattle.honest_server.specs.State.{in_session};
 ghost use Rattle.link_traits.specs.Link.{stream};
-ghost use Rattle.my_packets.specs.Packet.{packet};
+ghost use Rattle.wire_forms.specs.Packet.{packet};
 ghost use Rattle.my_session.specs.Channel.{ChannelView, channel_wire, IsOfChannel, IsUnsent, Skimmed, packets_within};
 ghost use Rattle.my_session.specs.Halt.{Misheard, Silent, Unsaid};
 ghost use Rattle.my_session.specs.Serving.{IsServing, Stays, MessageWaits, MakesNoObject, Delivers, DeliversFront, Replied};
@@ -125,7 +125,7 @@ impl<L: Link> Channel<L> {
         link
     }
 
-    /// Sends bytes that are the packets of a payload, behind which comes this id. Takes no memory.
+    /// Sends bytes that are the packets of a payload, after which comes this id. Takes no memory.
     pub fn send_packets(&mut self, packets: &[u8], next_id: u8) -> Result<(), SessionFault>
         requires alive { self.old.has_failed ≡ false }
         requires whole { L.honest self.old.link → IsWholeMessage (L.served self.old.link).state.phase packets.now }
@@ -205,7 +205,7 @@ impl<L: Link> Channel<L> {
         self.say_long(id, payload)
     }
 
-    /// Sends a further payload of the same exchange, with the ids behind those of the message that was
+    /// Sends a further payload of the same exchange, with the ids after those of the message that was
     /// heard last. Refusals and memory are those of [`Channel::say`].
     pub fn answer(&mut self, payload: &[u8]) -> Result<(), SessionFault>
         requires alive { self.old.has_failed ≡ false }

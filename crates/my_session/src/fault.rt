@@ -1,11 +1,11 @@
 // Why a call of a session didn't end well.
 ghost use Rattle.std.specs.Prelude.{◌≡◌};
 
-use result_rows::{Refusal, ShortText};
-use sql_statements::Form;
+use statement_forms::Form;
 use thiserror::Error;
+use wire_forms::{Refusal, ShortText};
 
-/// Why a call of a session didn't end well. Behind each but `Refused` the session has failed.
+/// Why a call of a session didn't end well. After each but `Refused` the session has failed.
 #[derive(Clone, Copy, Debug, Error)]
 pub enum SessionFault {
     /// The link failed, and has counted it.

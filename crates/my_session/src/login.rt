@@ -1,17 +1,17 @@
 // Logging in.
 ghost use Rattle.std.specs.Prelude.{◌≡◌, ◌≤◌, ◌↔◌, ◌+◌, ℕ, List, length, false, Some, Ok, Err, IfErr, IfOk, OnOk, MatchResult, option_copied};
 ghost use Rattle.honest_server.specs.State.{greeted, switching, in_session};
-ghost use Rattle.my_login.specs.Response.{response};
-ghost use Rattle.my_login.specs.Switch.{switch_of};
-ghost use Rattle.result_rows.specs.Reading.{idle};
-ghost use Rattle.result_rows.specs.Reply.{reply_of};
-ghost use Rattle.sql_statements.specs.declared.command.Command.{Command};
-ghost use Rattle.sql_statements.specs.declared.command.Command.TheVariants.{SetUp};
+ghost use Rattle.wire_forms.specs.Response.{response};
+ghost use Rattle.wire_forms.specs.Switch.{switch_of};
+ghost use Rattle.wire_forms.specs.Reading.{idle};
+ghost use Rattle.wire_forms.specs.Reply.{reply_of};
+ghost use Rattle.statement_forms.specs.declared.command.Command.{Command};
+ghost use Rattle.statement_forms.specs.declared.command.Command.TheVariants.{SetUp};
 ghost use Rattle.my_session.specs.Awaited.{greeting, decision, greeting_fault, decision_fault, switch_fault};
 ghost use Rattle.my_session.specs.Channel.{channel_wire};
 ghost use Rattle.my_session.specs.Halt.{Halts, Stops, Unsaid};
 ghost use Rattle.my_session.specs.Heard.{HearsGreeting, HearsDecision, IsDecision, IsAskedToSwitch};
-ghost use Rattle.my_session.specs.InStep.{phase_behind, GreetingWaits, DecisionWaits, IsQuiet, IsOpen};
+ghost use Rattle.my_session.specs.InStep.{phase_after, GreetingWaits, DecisionWaits, IsQuiet, IsOpen};
 ghost use Rattle.my_session.specs.Login.{password_answer, switch_answer, IsGreeted, IsAccepted, IsLoggedIn, LoginAwaits, LoginSends};
 ghost use Rattle.my_session.specs.Serving.{IsServing, Stays};
 ghost use Rattle.my_session.specs.Session.{IsCounted, Runs, failed_by};
@@ -22,11 +22,12 @@ use crate::fault::SessionFault;
 use crate::limits::SHORT_PAYLOAD;
 use crate::run::{hear_done, read_reply, run_on};
 use link_traits::Link;
-use my_login::{Greeting, LoginFault, Switch, native_answer, response_into};
-use result_rows::{Reply, RowReader};
-use sql_literals::Buffer;
-use sql_statements::{Command, Form};
+use my_login::{LoginMessage, native_answer, response_into};
+use plain_data::Buffer;
+use result_rows::RowReader;
+use statement_forms::{Command, Form};
 use std::alloc::Global;
+use wire_forms::{Greeting, LoginFault, Reply, Switch};
 
 // What a server decides of a login.
 enum Decision {
@@ -180,7 +181,7 @@ fn hear_decision<L: Link>(channel: &mut Channel<L>) -> Result<Decision, SessionF
     requires decision { L.honest channel.old.link → DecisionWaits L.Link channel.old.link channel.old.id }
 
     ensures stays { Stays L.Link channel.old.link channel.new.link }
-    ensures quiet { IfOk result (λ found. L.honest channel.new.link → IsQuiet L.Link (phase_behind found) channel.new.link) }
+    ensures quiet { IfOk result (λ found. L.honest channel.new.link → IsQuiet L.Link (phase_after found) channel.new.link) }
     ensures tells { L.tells channel.old.link ↔ L.tells channel.new.link }
     ensures counted { IsCounted (L.faults channel.old.link) (L.faults channel.new.link) result }
     ensures alive { OnOk result (channel.new.has_failed ≡ false) }

@@ -3,13 +3,13 @@ ghost use Rattle.std.specs.Prelude.{◌≡◌, ◌<◌, ◌↔◌, ℕ, Bool, fa
 ghost use Rattle.std.specs.Borrow.{sem};
 ghost use Rattle.std.specs.Io.BufRead.{Rests};
 ghost use Rattle.honest_server.specs.State.{Terms};
-ghost use Rattle.result_rows.specs.Reading.{idle};
-ghost use Rattle.sql_statements.specs.Statement.{QueryHasText};
-ghost use Rattle.my_session.specs.Session.{ReaderView, IsCounted, IsOfStatement, Asks, NextRow, PendingBehind, failed_by};
+ghost use Rattle.wire_forms.specs.Reading.{idle};
+ghost use Rattle.statement_forms.specs.Statement.{QueryHasText};
+ghost use Rattle.my_session.specs.Session.{ReaderView, IsCounted, IsOfStatement, Asks, NextRow, PendingAfter, failed_by};
 
 use crate::fault::SessionFault;
 use result_rows::Row;
-use sql_statements::Query;
+use statement_forms::Query;
 
 /// What all reading of a database goes through: a query is asked, and its rows come one by one.
 pub trait Reads {
@@ -44,7 +44,7 @@ pub trait Reads {
         ensures tells { tells self.old ↔ tells self.new }
         ensures counted { IsCounted (view self.old).faults (view self.new).faults result }
         ensures failed { (view self.new).has_failed ≡ failed_by result }
-        ensures pending { PendingBehind query.now result (view self.new).pending }
+        ensures pending { PendingAfter query.now result (view self.new).pending }
         ensures columns { IfOk result (λ columns. 0 < columns) }
         ensures fault { IfErr result IsOfStatement }
         ensures asks { tells self.old → Asks query.now (view self.old).wire result (view self.new).wire };

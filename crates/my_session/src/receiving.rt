@@ -1,7 +1,7 @@
 // How the bytes of a message are taken off a link.
 ghost use Rattle.std.specs.Prelude.{◌≡◌, ◌≢◌, ◌<◌, ◌≤◌, ◌↔◌, ◌+◌, ◌-◌, ℕ, [], length, false, IfErr, IfOk, OnOk, OnErr, Err};
 ghost use Rattle.my_packets.specs.Front.{Wants};
-ghost use Rattle.my_packets.specs.Packet.{id_behind};
+ghost use Rattle.wire_forms.specs.Packet.{id_after};
 ghost use Rattle.my_packets.specs.Skims.{wanted};
 ghost use Rattle.my_packets.specs.Steps.{Passes};
 ghost use Rattle.my_session.specs.Channel.{wire_at, IsOfChannel, Skimmed, packets_within};
@@ -173,7 +173,7 @@ pub(crate) fn skim_message<L: Link>(
     requires waits { IsServing L.Link link.old → MessageWaits id (L.served link.old).waiting }
 
     ensures stays { Stays L.Link link.old link.new }
-    ensures delivers { IfOk result (λ skim. IsServing L.Link link.old → DeliversFront L.Link skim link.old id link.new (id_behind (packets_within (taken.new - taken.old)) id)) }
+    ensures delivers { IfOk result (λ skim. IsServing L.Link link.old → DeliversFront L.Link skim link.old id link.new (id_after (packets_within (taken.new - taken.old)) id)) }
     ensures tells { L.tells link.old ↔ L.tells link.new }
     ensures counted { IsCounted (L.faults link.old) (L.faults link.new) result }
     ensures kind { IfErr result IsOfChannel }
@@ -181,7 +181,7 @@ pub(crate) fn skim_message<L: Link>(
     ensures within { taken.new ≤ SESSION_LIMIT }
     ensures later { taken.old ≤ taken.new }
     ensures size { OnOk result (4 ≤ taken.new - taken.old) }
-    ensures heard { IfOk result (λ skim. L.tells link.old → Skimmed skim (wire_at L.Link link.old taken.old id) (wire_at L.Link link.new taken.new (id_behind (packets_within (taken.new - taken.old)) id))) }
+    ensures heard { IfOk result (λ skim. L.tells link.old → Skimmed skim (wire_at L.Link link.old taken.old id) (wire_at L.Link link.new taken.new (id_after (packets_within (taken.new - taken.old)) id))) }
     ensures err { IfErr result (λ fault. (now : ℕ) → L.tells link.old → Misheard (wire_at L.Link link.old taken.old id) fault (wire_at L.Link link.new taken.new now)) }
 {
     let began = *taken;

@@ -1,14 +1,14 @@
 // Queries, and their rows.
 ghost use Rattle.std.specs.Prelude.{◌≡◌, ◌≤◌, ◌<◌, ◌↔◌, ◌+◌, ◌-◌, ℕ, length, true, false, Some, Ok, Err, IfErr, IfOk, OnOk, MatchResult, option_copied};
-ghost use Rattle.result_rows.specs.Reading.{idle, counted, definition_if, further_of, after};
-ghost use Rattle.result_rows.specs.declared.reader.Reply.TheVariants.{Columns};
-ghost use Rattle.sql_statements.specs.Form.{query_form};
-ghost use Rattle.sql_statements.specs.Statement.{QueryHasText};
-ghost use Rattle.sql_statements.specs.Text.{query_text};
+ghost use Rattle.wire_forms.specs.Reading.{idle, columns_counted, definition_if, further_of, reading_after};
+ghost use Rattle.wire_forms.specs.declared.reply.Reply.TheVariants.{Columns};
+ghost use Rattle.statement_forms.specs.Form.{query_form};
+ghost use Rattle.statement_forms.specs.Statement.{QueryHasText};
+ghost use Rattle.statement_forms.specs.Text.{query_text};
 ghost use Rattle.my_session.specs.Awaited.{count, further};
 ghost use Rattle.my_session.specs.Channel.{channel_wire};
 ghost use Rattle.my_session.specs.Halt.{Halts, Stops, Unsaid};
-ghost use Rattle.my_session.specs.Heard.{HearsReply, HearsDefinition, IsBehindRow, Judges};
+ghost use Rattle.my_session.specs.Heard.{HearsReply, HearsDefinition, IsAfterRow, Judges};
 ghost use Rattle.my_session.specs.InStep.{IsOpen, ReplyWaits};
 ghost use Rattle.my_session.specs.Lead.{lead_of};
 ghost use Rattle.my_session.specs.Serving.{Stays};
@@ -23,9 +23,11 @@ use crate::run::{hear_reply, run_on};
 use crate::session::Session;
 use link_traits::Link;
 use my_packets::Message;
-use result_rows::{Reply, Row, RowReader, Turn};
-use sql_literals::Buffer;
-use sql_statements::{Command, Form, Part, Query, query_into};
+use plain_data::Buffer;
+use result_rows::{Row, RowReader, Turn};
+use sql_statements::query_into;
+use statement_forms::{Command, Form, Part, Query};
+use wire_forms::Reply;
 
 // The schema in which a query is to be asked.
 fn lead_of<'q>(query: &'q Query<'_>) -> Option<&'q [u8]>
@@ -141,7 +143,7 @@ fn hear_count<L: Link>(
     requires waits { L.honest channel.old.link → ReplyWaits L.Link channel.old.link channel.old.id }
 
     ensures stays { Stays L.Link channel.old.link channel.new.link }
-    ensures rest { IfOk result (λ columns. L.honest channel.new.link → IsOpen L.Link channel.new.link channel.new.id (counted columns)) }
+    ensures rest { IfOk result (λ columns. L.honest channel.new.link → IsOpen L.Link channel.new.link channel.new.id (columns_counted columns)) }
     ensures is_open { IfErr result (λ fault. ends_session fault ≡ false → L.honest channel.new.link → IsOpen L.Link channel.new.link channel.new.id idle) }
     ensures tells { L.tells channel.old.link ↔ L.tells channel.new.link }
     ensures counted { IsCounted (L.faults channel.old.link) (L.faults channel.new.link) result }
@@ -149,7 +151,7 @@ fn hear_count<L: Link>(
     ensures fault { IfErr result IsOfStatement }
     ensures some { IfOk result (λ columns. 0 < columns) }
     ensures few { IfOk result (λ columns. columns < 65536) }
-    ensures reader { IfOk result (λ columns. reader.new ≡ counted columns) }
+    ensures reader { IfOk result (λ columns. reader.new ≡ columns_counted columns) }
     ensures heard { IfOk result (λ columns. L.tells channel.old.link → HearsReply (Some (Columns columns)) (channel_wire L.Link channel.old) (channel_wire L.Link channel.new)) }
     ensures err { IfErr result (λ fault. L.tells channel.old.link → Halts (count form) (channel_wire L.Link channel.old) fault (channel_wire L.Link channel.new)) }
 {
@@ -163,13 +165,13 @@ fn hear_count<L: Link>(
     }
 }
 
-// Whether a message is a column definition, or the EOF behind the definitions, where one is awaited.
+// Whether a message is a column definition, or the EOF after the definitions, where one is awaited.
 fn is_definition(reader: &mut RowReader, message: Message<'_>) -> bool
     requires pending { 0 < reader.old.columns }
     requires awaited { 0 < reader.old.awaited }
 
     ensures turn { further_of reader.old message.entry.payload.now ≡ definition_if result }
-    ensures after { reader.new ≡ after reader.old (definition_if result) }
+    ensures after { reader.new ≡ reading_after reader.old (definition_if result) }
 {
     match reader.more(message) {
         Ok(Turn::Definition) => true,
@@ -180,7 +182,7 @@ fn is_definition(reader: &mut RowReader, message: Message<'_>) -> bool
     }
 }
 
-// Hears a column definition, or the EOF behind the definitions.
+// Hears a column definition, or the EOF after the definitions.
 fn hear_definition<L: Link>(
     channel: &mut Channel<L>,
     reader: &mut RowReader,
@@ -222,7 +224,7 @@ fn describe<L: Link>(
     requires alive { channel.old.has_failed ≡ false }
     requires some { 0 < columns }
     requires few { columns < 65536 }
-    requires reader { reader.old ≡ counted columns }
+    requires reader { reader.old ≡ columns_counted columns }
     requires rest { L.honest channel.old.link → IsOpen L.Link channel.old.link channel.old.id reader.old }
 
     ensures stays { Stays L.Link channel.old.link channel.new.link }
@@ -233,8 +235,8 @@ fn describe<L: Link>(
     ensures alive { failed_by result ≡ false → channel.new.has_failed ≡ false }
     ensures fault { IfErr result IsOfStatement }
     ensures reader { OnOk result (reader.new ≡ rows_of columns) }
-    ensures ok { OnOk result ((start : Wire) → L.tells channel.old.link → Takes (λ steps. IsDescribed query.now steps (counted columns)) start (channel_wire L.Link channel.old) → Takes (λ steps. IsDescribed query.now steps (rows_of columns)) start (channel_wire L.Link channel.new)) }
-    ensures err { IfErr result (λ fault. (start : Wire) → L.tells channel.old.link → Takes (λ steps. IsDescribed query.now steps (counted columns)) start (channel_wire L.Link channel.old) → Stops (QueryAwaits query.now) (QuerySends query.now) start fault (channel_wire L.Link channel.new)) }
+    ensures ok { OnOk result ((start : Wire) → L.tells channel.old.link → Takes (λ steps. IsDescribed query.now steps (columns_counted columns)) start (channel_wire L.Link channel.old) → Takes (λ steps. IsDescribed query.now steps (rows_of columns)) start (channel_wire L.Link channel.new)) }
+    ensures err { IfErr result (λ fault. (start : Wire) → L.tells channel.old.link → Takes (λ steps. IsDescribed query.now steps (columns_counted columns)) start (channel_wire L.Link channel.old) → Stops (QueryAwaits query.now) (QuerySends query.now) start fault (channel_wire L.Link channel.new)) }
 {
     let form = query.form();
     let mut left = columns + 1;
@@ -286,7 +288,7 @@ fn ask<L: Link>(
     Ok(columns)
 }
 
-// Reads a message in the place of a row, and says whether it is one; else it is the end. Behind a
+// Reads a message in the place of a row, and says whether it is one; else it is the end. After a
 // fault nothing is pending.
 fn judge(reader: &mut RowReader, form: Form, message: Message<'_>) -> Result<bool, SessionFault>
     requires pending { 0 < reader.old.columns }
@@ -307,7 +309,7 @@ fn judge(reader: &mut RowReader, form: Form, message: Message<'_>) -> Result<boo
     }
 }
 
-// Hears a message in the place of a row, and says whether it is one; else it is the end. Behind a
+// Hears a message in the place of a row, and says whether it is one; else it is the end. After a
 // fault nothing is pending.
 fn advance<L: Link>(
     channel: &mut Channel<L>,
@@ -326,7 +328,7 @@ fn advance<L: Link>(
     ensures alive { failed_by result ≡ false → channel.new.has_failed ≡ false }
     ensures began { OnOk result (channel.new.began ≡ channel.old.place) }
     ensures onward { OnOk result (IsOnward channel.old.place channel.new.place) }
-    ensures reader { MatchResult result (λ is_row. IsBehindRow reader.old channel.new.message is_row reader.new) (λ _. reader.new ≡ idle) }
+    ensures reader { MatchResult result (λ is_row. IsAfterRow reader.old channel.new.message is_row reader.new) (λ _. reader.new ≡ idle) }
     ensures heard { OnOk result (L.tells channel.old.link → Hears channel.new.message (channel_wire L.Link channel.old) (channel_wire L.Link channel.new)) }
     ensures err { IfErr result (λ fault. L.tells channel.old.link → Halts (further form reader.old) (channel_wire L.Link channel.old) fault (channel_wire L.Link channel.new)) }
 {

@@ -1,9 +1,9 @@
 // Commands, and the first message of a reply.
 ghost use Rattle.std.specs.Prelude.{◌≡◌, ◌≤◌, ◌↔◌, ◌+◌, length, false, Some, IfErr, IfOk, OnOk, OnErr, Err};
-ghost use Rattle.result_rows.specs.Reading.{idle};
-ghost use Rattle.result_rows.specs.Reply.{reply_of};
-ghost use Rattle.sql_statements.specs.Statement.{CommandHasText};
-ghost use Rattle.sql_statements.specs.Text.{command_text};
+ghost use Rattle.wire_forms.specs.Reading.{idle};
+ghost use Rattle.wire_forms.specs.Reply.{reply_of};
+ghost use Rattle.statement_forms.specs.Statement.{CommandHasText};
+ghost use Rattle.statement_forms.specs.Text.{command_text};
 ghost use Rattle.my_session.specs.Awaited.{done};
 ghost use Rattle.my_session.specs.Channel.{channel_wire, IsOfChannel};
 ghost use Rattle.my_session.specs.Halt.{Halts, Misheard};
@@ -16,9 +16,11 @@ ghost use Rattle.my_session.specs.Statements.{command_payload};
 use crate::channel::Channel;
 use crate::fault::SessionFault;
 use link_traits::Link;
-use result_rows::{Reply, RowReader};
-use sql_literals::Buffer;
-use sql_statements::{Command, Form, command_into};
+use plain_data::Buffer;
+use result_rows::RowReader;
+use sql_statements::command_into;
+use statement_forms::{Command, Form};
+use wire_forms::Reply;
 
 /// Hears a reply's first message; `None` where it spells none. Takes no memory.
 #[tactic(auto, using(crate::proofs::Answering::skim_tells, crate::proofs::Answering::front_tells_reply))]

@@ -1,8 +1,8 @@
 // A session.
 ghost use Rattle.std.specs.Prelude.{◌≡◌, ◌↔◌, ◌≤◌, length, false, IfErr, MatchResult, Err};
-ghost use Rattle.result_rows.specs.Reading.{idle};
-ghost use Rattle.sql_statements.specs.Statement.{CommandHasText};
-ghost use Rattle.sql_statements.specs.Text.{command_text};
+ghost use Rattle.wire_forms.specs.Reading.{idle};
+ghost use Rattle.statement_forms.specs.Statement.{CommandHasText};
+ghost use Rattle.statement_forms.specs.Text.{command_text};
 ghost use Rattle.my_session.specs.InStep.{GreetingWaits, MakesNothing};
 ghost use Rattle.my_session.specs.Session.{Closes, IsCounted, IsOfStatement, LoggedIn, LoginStopped, Runs, failed_by, wire_of};
 
@@ -11,9 +11,9 @@ use crate::fault::SessionFault;
 use crate::login::log_in;
 use crate::run::run_on;
 use link_traits::Link;
+use plain_data::Buffer;
 use result_rows::RowReader;
-use sql_literals::Buffer;
-use sql_statements::{Command, Form};
+use statement_forms::{Command, Form};
 use std::alloc::Global;
 use std::marker::Model;
 

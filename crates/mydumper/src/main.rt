@@ -3,7 +3,7 @@
 #![tactic(auto)]
 
 use dumper_cli::mydumper;
-use sql_literals::{Name, NameList};
+use plain_data::{Name, NameList};
 use std::alloc::Global;
 use std::io::ErrorKind;
 use std::process::ExitCode;
@@ -25,7 +25,7 @@ fn fault_of(kind: ErrorKind) -> WordsFault {
     }
 }
 
-// The words behind the program's name.
+// The words after the program's name.
 fn words_of(rt: &(impl Env + AllocGlobal)) -> Result<NameList, WordsFault> {
     let mut words = NameList::new(rt.alloc());
     let args = match env::args(rt) {

@@ -3,11 +3,11 @@ use Rattle.std.proofs.Common.{◌≡◌, ℕ, suc, zero, ◌+◌, ◌≤◌, ◌
 use Rattle.std.proofs.Math.Seq.{drop-append-add}
 use Rattle.std.proofs.lemmas.List.{drop-append-le}
 use Rattle.std.proofs.lemmas.Bool.{cases_lt}
-use Rattle.object_texts.specs.declared.head.Kind.{Kind}
-use Rattle.object_texts.specs.declared.head.Kind.TheVariants.{Table}
-use Rattle.object_texts.specs.Head.{kind_in, kind_of}
-use Rattle.object_texts.specs.Token.{Lexeme, Token, closing, comment_end, comment_lexeme, ends_comment, first_token, is_quote, is_word, is_word_byte, more, quoted_lexeme, slash_lexeme, tokens}
-use Rattle.object_texts.specs.Token.Token.{comment, mark, quoted_name, string, unended, white, word}
+use Rattle.object_forms.specs.declared.kind.Kind.{Kind}
+use Rattle.object_forms.specs.declared.kind.Kind.TheVariants.{Table}
+use Rattle.object_forms.specs.Head.{kind_in, kind_of}
+use Rattle.object_forms.specs.Token.{Lexeme, Token, closing, comment_end, comment_lexeme, ends_comment, first_token, is_quote, is_word, is_word_byte, more, quoted_lexeme, slash_lexeme, tokens}
+use Rattle.object_forms.specs.Token.Token.{comment, mark, quoted_name, string, unended, white, word}
 use Rattle.object_texts.proofs.Cuts.{cond_both}
 use Rattle.object_texts.proofs.Fronts.{first_token-append, first_token-break, is_ended, tokens-alike}
 use Rattle.object_texts.proofs.HeadFronts.{EndsLast, Reaches, from_kind, word-ended}
@@ -18,7 +18,7 @@ both_false : (b : Bool) → (b && false) ≡ false
 both_false true = refl
 both_false false = refl
 
--- where there was no end, there is one now behind so many bytes
+-- where there was no end, there is one now after so many bytes
 abbrev Closed : ℕ → Option ℕ → Option ℕ → Type 0
 Closed n again None = again ≡ Some n
 Closed n again (Some size) = Unit {0}
@@ -55,7 +55,7 @@ comment_end-closed (byte ∷ next ∷ bytes) rest =
     let n = suc (suc (length bytes)) + 2 in
     cond_both (Closed n) (ends_comment byte next) tt (more-closed 1 (suc (length bytes) + 2) n (comment_end (next ∷ bytes ++ (42 ∷ 47 ∷ rest))) (comment_end (next ∷ bytes)) (omega arith) (comment_end-closed (next ∷ bytes) rest))
 
--- a text that nothing ends, closed: its token, and those behind it
+-- a text that nothing ends, closed: its token, and those after it
 quote-closed : (byte : ℕ) (bytes rest : List ℕ) → is_word_byte byte ≡ false → is_quote byte ≡ true → closing byte bytes ≡ None → first_token (byte ∷ bytes ++ (120 ∷ byte ∷ 32 ∷ rest)) ≡ quoted_lexeme byte (bytes ++ (120 ∷ byte ∷ 32 ∷ rest)) (Some (length bytes + 2))
 quote-closed byte bytes rest no_word quote none =
     let again : closing byte (bytes ++ (120 ∷ byte ∷ 32 ∷ rest)) ≡ Some (length bytes + 2) = subst (Closed (length bytes + 2) (closing byte (bytes ++ (120 ∷ byte ∷ 32 ∷ rest)))) none (closing-closed byte bytes rest (other_quote byte 120 quote refl) (other_quote byte 32 quote refl)) in
@@ -150,7 +150,7 @@ unended-is unended e = refl
 kind_in-token : (token : Token) (all : List Token) → kind_of token ≡ None → kind_in (token ∷ all) ≡ kind_in all
 kind_in-token token all e = ap (λ (found : Option Kind). from_kind found all) e
 
--- the last token of a text, and a continuation behind it
+-- the last token of a text, and a continuation after it
 opens-last : (first : ℕ) (bytes : List ℕ) (ended : Bool) → is_ended (first_token (first ∷ bytes)).token ≡ ended → length (first ∷ bytes) ≤ (first_token (first ∷ bytes)).size → kind_of (first_token (first ∷ bytes)).token ≡ None → Opens (first ∷ bytes)
 opens-last first bytes true ended last none =
     let text = first ∷ bytes in
@@ -169,14 +169,14 @@ opens-within (suc n) (first ∷ bytes) within none =
     let text = first ∷ bytes in
     let found = first_token text in
     let fits = first_token-fits first bytes in
-    let behind = drop found.size text in
-    let split = no_kind (kind_of found.token) (tokens behind) (sym (ap kind_in (tokens-cons first bytes)) ∙ none) in
+    let after = drop found.size text in
+    let split = no_kind (kind_of found.token) (tokens after) (sym (ap kind_in (tokens-cons first bytes)) ∙ none) in
     ⊎_elim
     (λ below.
-    let opens = opens-within n behind (omega (arith, length-drop found.size text, fits.some)) split.1 in
+    let opens = opens-within n after (omega (arith, length-drop found.size text, fits.some)) split.1 in
     let same = first_token-append text opens.more below in
-    let left : drop found.size (text ++ opens.more) ≡ behind ++ opens.more = drop-append-le found.size text opens.more fits.within in
-    record { more = opens.more; kinds = ap kind_in (tokens-alike (text ++ opens.more) text (behind ++ opens.more) same fits.some left) ∙ kind_in-token found.token (tokens (behind ++ opens.more)) split.0 ∙ opens.kinds })
+    let left : drop found.size (text ++ opens.more) ≡ after ++ opens.more = drop-append-le found.size text opens.more fits.within in
+    record { more = opens.more; kinds = ap kind_in (tokens-alike (text ++ opens.more) text (after ++ opens.more) same fits.some left) ∙ kind_in-token found.token (tokens (after ++ opens.more)) split.0 ∙ opens.kinds })
     (λ last. opens-last first bytes (is_ended found.token) refl last split.0)
     (cases_lt found.size (length text))
 
@@ -186,7 +186,7 @@ pub record Creates (text : List ℕ) : Type 0 where
   pub reaches : Reaches (tokens (text ++ more)) (tokens (codes " t"))
 
 pub creates-of : (token : Token) (all : List Token) → is_word (codes "create") token ≡ true → kind_in all ≡ Some (record { value = Table; rest = tokens (codes " t") }) → Reaches (token ∷ all) (tokens (codes " t"))
-creates-of token all create kinds = record { created = all; kind = Table; behind_kind = tokens (codes " t"); create = rw create refl; kinds = kinds; gaps = refl }
+creates-of token all create kinds = record { created = all; kind = Table; after_kind = tokens (codes " t"); create = rw create refl; kinds = kinds; gaps = refl }
 
 creates-last : (first : ℕ) (bytes : List ℕ) → is_ended (first_token (first ∷ bytes)).token ≡ true → is_word (codes "create") (first_token (first ∷ bytes)).token ≡ true → length (first ∷ bytes) ≤ (first_token (first ∷ bytes)).size → Creates (first ∷ bytes)
 creates-last first bytes ended create last =
@@ -202,14 +202,14 @@ creates first bytes create none =
     let text = first ∷ bytes in
     let found = first_token text in
     let fits = first_token-fits first bytes in
-    let behind = drop found.size text in
+    let after = drop found.size text in
     ⊎_elim
     (λ below.
-    let opens = opens-within (length behind) behind (omega arith) none in
+    let opens = opens-within (length after) after (omega arith) none in
     let same = first_token-append text opens.more below in
-    let left : drop found.size (text ++ opens.more) ≡ behind ++ opens.more = drop-append-le found.size text opens.more fits.within in
+    let left : drop found.size (text ++ opens.more) ≡ after ++ opens.more = drop-append-le found.size text opens.more fits.within in
     let P : List Token → Type 0 = λ all. Reaches all (tokens (codes " t")) in
-    record { more = opens.more; reaches = subst P (sym (tokens-alike (text ++ opens.more) text (behind ++ opens.more) same fits.some left)) (creates-of found.token (tokens (behind ++ opens.more)) create opens.kinds) })
+    record { more = opens.more; reaches = subst P (sym (tokens-alike (text ++ opens.more) text (after ++ opens.more) same fits.some left)) (creates-of found.token (tokens (after ++ opens.more)) create opens.kinds) })
     (λ last. creates-last first bytes (word-ended (codes "create") found.token create) create last)
     (cases_lt found.size (length text))
 
@@ -243,9 +243,9 @@ last-step : (token : Token) (all : List Token) → (1 ≤ length all → is_ende
 last-step token [] ended last = tt
 last-step token (next ∷ all) ended last = (ended (omega arith), last)
 
-nothing-behind : (text : List ℕ) → length text ≡ 0 → length (tokens text) ≡ 0
-nothing-behind [] e = ap length tokens-nil
-nothing-behind (byte ∷ bytes) e = absurd (omega arith)
+nothing-after : (text : List ℕ) → length text ≡ 0 → length (tokens text) ≡ 0
+nothing-after [] e = ap length tokens-nil
+nothing-after (byte ∷ bytes) e = absurd (omega arith)
 
 ended-or : (ended : Bool) (token : Token) (all : List Token) → is_ended token ≡ ended → (is_ended token ≡ false → length all ≡ 0) → 1 ≤ length all → is_ended token ≡ true
 ended-or true token all e whole some = e
@@ -258,10 +258,10 @@ ends-last-within (suc n) (first ∷ bytes) within =
     let text = first ∷ bytes in
     let found = first_token text in
     let fits = first_token-fits first bytes in
-    let behind = drop found.size text in
+    let after = drop found.size text in
     let shorter = length-drop found.size text in
-    let none : is_ended found.token ≡ false → length (tokens behind) ≡ 0 = λ e. let whole = unended-whole first bytes e in nothing-behind behind (omega arith) in
-    subst EndsLast (sym (tokens-cons first bytes)) (last-step found.token (tokens behind) (ended-or (is_ended found.token) found.token (tokens behind) refl none) (ends-last-within n behind (omega (arith, fits.some))))
+    let none : is_ended found.token ≡ false → length (tokens after) ≡ 0 = λ e. let whole = unended-whole first bytes e in nothing-after after (omega arith) in
+    subst EndsLast (sym (tokens-cons first bytes)) (last-step found.token (tokens after) (ended-or (is_ended found.token) found.token (tokens after) refl none) (ends-last-within n after (omega (arith, fits.some))))
 
 pub ends-last : (text : List ℕ) → EndsLast (tokens text)
 ends-last text = ends-last-within (length text) text (omega arith)

@@ -1,10 +1,10 @@
--- A text that is cut behind some of its tokens has just those tokens.
+-- A text that is cut after some of its tokens has just those tokens.
 use Rattle.std.proofs.Common.{◌≡◌, ℕ, suc, zero, ◌+◌, ◌-◌, ◌<◌, ◌≤◌, ◌==◌, ◌&&◌, not, Bool, true, false, cond, List, [], ◌∷◌, ◌++◌, length, take, drop, Option, Some, None, refl, sym, ◌∙◌, ap, subst, ⊎_elim, arith, length-drop, append_assoc}
 use Rattle.std.proofs.lemmas.List.{append_cancel_right, drop-drop, drop-take, take_all}
 use Rattle.std.proofs.lemmas.Bool.{cases_lt}
 use Rattle.std.specs.List.{prefix_len}
-use Rattle.object_texts.specs.Token.{Lexeme, Token, closing, comment_end, comment_lexeme, ends_comment, first_token, is_quote, is_white, is_word_byte, more, quoted_lexeme, slash_lexeme, tokens, word_lexeme}
-use Rattle.object_texts.specs.Left.{IsLeft, left_behind}
+use Rattle.object_forms.specs.Token.{Lexeme, Token, closing, comment_end, comment_lexeme, ends_comment, first_token, is_quote, is_white, is_word_byte, more, quoted_lexeme, slash_lexeme, tokens, word_lexeme}
+use Rattle.object_texts.specs.Left.{IsLeft, left_after}
 use Rattle.object_texts.proofs.Tokens.{EndsWithin, closing-within, comment_end-within, cond_by, first_token-fits, tokens-cons, tokens-nil}
 
 -- what holds between the choices holds of those that one test makes
@@ -102,7 +102,7 @@ slash-stays (byte ∷ bytes) (suc n) cut =
     let all : suc n - 1 ≡ n = omega arith in
     cond_both (Stays (suc (suc n))) (byte == 42) (comment-stays (byte ∷ bytes) (suc n) (comment_end (take n bytes)) (comment_end bytes) cut (rw all (comment_end-take bytes n))) (λ within. refl)
 
--- the first token stays the same where no more than what is behind it is cut off
+-- the first token stays the same where no more than what is after it is cut off
 first_token-cut : (byte : ℕ) (bytes : List ℕ) (n : ℕ) → n < length bytes → Stays (suc n) (first_token (byte ∷ take n bytes)) (first_token (byte ∷ bytes))
 first_token-cut byte bytes n cut =
     let R : Lexeme → Lexeme → Type 0 = Stays (suc n) in
@@ -120,33 +120,33 @@ first_token-take (byte ∷ bytes) (suc n) within =
 pub left-all : (text : List ℕ) → IsLeft text text
 left-all text = record { count = 0; is = refl }
 
-left_behind-suc : (n : ℕ) (bytes : List ℕ) → left_behind (suc n) bytes ≡ drop (first_token (left_behind n bytes)).size (left_behind n bytes)
-left_behind-suc zero bytes = refl
-left_behind-suc (suc n) bytes = left_behind-suc n (drop (first_token bytes).size bytes)
+left_after-suc : (n : ℕ) (bytes : List ℕ) → left_after (suc n) bytes ≡ drop (first_token (left_after n bytes)).size (left_after n bytes)
+left_after-suc zero bytes = refl
+left_after-suc (suc n) bytes = left_after-suc n (drop (first_token bytes).size bytes)
 
 pub left-next : (text rest : List ℕ) → IsLeft text rest → IsLeft text (drop (first_token rest).size rest)
-left-next text rest left = record { count = suc left.count; is = left_behind-suc left.count text ∙ ap (λ (bytes : List ℕ). drop (first_token bytes).size bytes) left.is }
+left-next text rest left = record { count = suc left.count; is = left_after-suc left.count text ∙ ap (λ (bytes : List ℕ). drop (first_token bytes).size bytes) left.is }
 
--- what was read behind one more token is left too
-pub left-read : (text rest behind : List ℕ) → behind ≡ drop (first_token rest).size rest → IsLeft text rest → IsLeft text behind
-left-read text rest behind read left = subst (IsLeft text) (sym read) (left-next text rest left)
+-- what was read after one more token is left too
+pub left-read : (text rest after : List ℕ) → after ≡ drop (first_token rest).size rest → IsLeft text rest → IsLeft text after
+left-read text rest after read left = subst (IsLeft text) (sym read) (left-next text rest left)
 
 -- the rest stands at the text's end, and the tokens are those before it and its own
 pub record Parted (text rest : List ℕ) : Type 0 where
   pub within : length rest ≤ length text
-  pub behind : drop (length text - length rest) text ≡ rest
+  pub after : drop (length text - length rest) text ≡ rest
   pub tokens : tokens text ≡ tokens (take (length text - length rest) text) ++ tokens rest
 
 parted-all : (text : List ℕ) → Parted text text
 parted-all text =
     let none : length text - length text ≡ 0 = omega arith in
-    record { within = omega arith; behind = rw none refl; tokens = rw (none, tokens-nil) refl }
+    record { within = omega arith; after = rw none refl; tokens = rw (none, tokens-nil) refl }
 
 pub tokens-first : (bytes : List ℕ) → 1 ≤ (first_token bytes).size → tokens bytes ≡ (first_token bytes).token ∷ tokens (drop (first_token bytes).size bytes)
 tokens-first [] some = absurd (omega arith)
 tokens-first (byte ∷ bytes) some = tokens-cons byte bytes
 
--- the tokens of a text's front are its first token and those of the front of what is behind it
+-- the tokens of a text's front are its first token and those of the front of what is after it
 pub tokens-front : (bytes : List ℕ) (n : ℕ) → 1 ≤ (first_token bytes).size → tokens (take ((first_token bytes).size + n) bytes) ≡ (first_token bytes).token ∷ tokens (take n (drop (first_token bytes).size bytes))
 tokens-front bytes n some =
     let front = take ((first_token bytes).size + n) bytes in
@@ -162,25 +162,25 @@ parted-more text rest some within parted =
     let at : length text - length rest ≡ size + place = omega (arith, parted.within) in
     record {
       within = omega (arith, parted.within);
-      behind = ap (λ (n : ℕ). drop n text) at ∙ sym (drop-drop place size text) ∙ parted.behind;
+      after = ap (λ (n : ℕ). drop n text) at ∙ sym (drop-drop place size text) ∙ parted.after;
       tokens = tokens-first text some ∙ ap (λ (left : List Token). (first_token text).token ∷ left) parted.tokens ∙ ap (λ (front : List Token). front ++ tokens rest) (sym (tokens-front text place some)) ∙ ap (λ (n : ℕ). tokens (take n text) ++ tokens rest) (sym at);
     }
 
-parted-behind : (n : ℕ) (text : List ℕ) → Parted text (left_behind n text)
-parted-behind zero text = parted-all text
-parted-behind (suc n) [] = parted-behind n []
-parted-behind (suc n) (byte ∷ bytes) =
+parted-after : (n : ℕ) (text : List ℕ) → Parted text (left_after n text)
+parted-after zero text = parted-all text
+parted-after (suc n) [] = parted-after n []
+parted-after (suc n) (byte ∷ bytes) =
     let fits = first_token-fits byte bytes in
-    parted-more (byte ∷ bytes) (left_behind n (drop (first_token (byte ∷ bytes)).size (byte ∷ bytes))) fits.some fits.within (parted-behind n (drop (first_token (byte ∷ bytes)).size (byte ∷ bytes)))
+    parted-more (byte ∷ bytes) (left_after n (drop (first_token (byte ∷ bytes)).size (byte ∷ bytes))) fits.some fits.within (parted-after n (drop (first_token (byte ∷ bytes)).size (byte ∷ bytes)))
 
 pub parted : (text rest : List ℕ) → IsLeft text rest → Parted text rest
-parted text rest left = subst (Parted text) left.is (parted-behind left.count text)
+parted text rest left = subst (Parted text) left.is (parted-after left.count text)
 
 -- one token more before what is left
-pub front-more : (text rest behind : List ℕ) (token : Token) → IsLeft text rest → IsLeft text behind → tokens rest ≡ token ∷ tokens behind → tokens (take (length text - length behind) text) ≡ tokens (take (length text - length rest) text) ++ (token ∷ [])
-front-more text rest behind token left later first =
+pub front-more : (text rest after : List ℕ) (token : Token) → IsLeft text rest → IsLeft text after → tokens rest ≡ token ∷ tokens after → tokens (take (length text - length after) text) ≡ tokens (take (length text - length rest) text) ++ (token ∷ [])
+front-more text rest after token left later first =
     let before = tokens (take (length text - length rest) text) in
-    let one : before ++ (token ∷ tokens behind) ≡ tokens text = ap (λ (back : List Token). before ++ back) (sym first) ∙ sym (parted text rest left).tokens in
-    append_cancel_right (tokens (take (length text - length behind) text)) (before ++ (token ∷ [])) (tokens behind) (sym (parted text behind later).tokens ∙ sym one ∙ sym (append_assoc before (token ∷ []) (tokens behind)))
+    let one : before ++ (token ∷ tokens after) ≡ tokens text = ap (λ (back : List Token). before ++ back) (sym first) ∙ sym (parted text rest left).tokens in
+    append_cancel_right (tokens (take (length text - length after) text)) (before ++ (token ∷ [])) (tokens after) (sym (parted text after later).tokens ∙ sym one ∙ sym (append_assoc before (token ∷ []) (tokens after)))
 
 pub ruleset left = (left-all, left-read)

@@ -2,9 +2,9 @@
 use Rattle.std.proofs.Common.{◌≡◌, ℕ, suc, zero, ◌+◌, ◌-◌, ◌<◌, ◌≤◌, Bool, true, false, List, [], ◌∷◌, ◌++◌, length, take, drop, inl, inr, refl, sym, ◌∙◌, ap, subst, arith, append-nil, length-drop, length-take-le}
 use Rattle.std.specs.List.{list_all}
 use Rattle.std.proofs.lemmas.List.{drop-append-le, drop-take}
-use Rattle.object_texts.specs.Left.{IsLeft, left_behind}
-use Rattle.object_texts.specs.Token.{Lexeme, Token, first_token, tokens}
-use Rattle.object_texts.specs.Token.Token.{unended}
+use Rattle.object_texts.specs.Left.{IsLeft, left_after}
+use Rattle.object_forms.specs.Token.{Lexeme, Token, first_token, tokens}
+use Rattle.object_forms.specs.Token.Token.{unended}
 use Rattle.object_texts.proofs.Cuts.{first_token-take, parted, tokens-first, tokens-front}
 use Rattle.object_texts.proofs.Longer.{IsBreak, first_token-longer}
 use Rattle.object_texts.proofs.Tokens.{first_token-fits, tokens-cons, tokens-nil}
@@ -30,9 +30,9 @@ first_token-break (first ∷ bytes) byte rest breaks some ended = first_token-lo
 
 -- the tokens of a text whose first token is that of another
 pub tokens-alike : (text other rest : List ℕ) → first_token text ≡ first_token other → 1 ≤ (first_token other).size → drop (first_token other).size text ≡ rest → tokens text ≡ (first_token other).token ∷ tokens rest
-tokens-alike text other rest same some behind =
+tokens-alike text other rest same some after =
     let there : 1 ≤ (first_token text).size = rw same some in
-    tokens-first text there ∙ ap (λ (found : Lexeme). found.token ∷ tokens (drop found.size text)) same ∙ ap (λ (left : List ℕ). (first_token other).token ∷ tokens left) behind
+    tokens-first text there ∙ ap (λ (found : Lexeme). found.token ∷ tokens (drop found.size text)) same ∙ ap (λ (left : List ℕ). (first_token other).token ∷ tokens left) after
 
 -- a text of ended tokens, and one that begins with a byte with which none goes on
 tokens-break-within : (n : ℕ) (text : List ℕ) (byte : ℕ) (rest : List ℕ) → length text ≤ n → IsBreak byte → list_all is_ended (tokens text) ≡ true → tokens (text ++ (byte ∷ rest)) ≡ tokens text ++ tokens (byte ∷ rest)
@@ -42,49 +42,49 @@ tokens-break-within (suc n) (first ∷ bytes) byte rest within breaks ended =
     let text = first ∷ bytes in
     let found = first_token text in
     let fits = first_token-fits first bytes in
-    let behind = drop found.size text in
+    let after = drop found.size text in
     let whole = tokens-cons first bytes in
-    let both = both_true (is_ended found.token) (list_all is_ended (tokens behind)) (sym (ap (list_all is_ended) whole) ∙ ended) in
+    let both = both_true (is_ended found.token) (list_all is_ended (tokens after)) (sym (ap (list_all is_ended) whole) ∙ ended) in
     let same = first_token-break text byte rest breaks fits.some both.0 in
-    let left : drop found.size (text ++ (byte ∷ rest)) ≡ behind ++ (byte ∷ rest) = drop-append-le found.size text (byte ∷ rest) fits.within in
-    tokens-alike (text ++ (byte ∷ rest)) text (behind ++ (byte ∷ rest)) same fits.some left
-    ∙ ap (λ (others : List Token). found.token ∷ others) (tokens-break-within n behind byte rest (omega (arith, length-drop found.size text, fits.some)) breaks both.1)
+    let left : drop found.size (text ++ (byte ∷ rest)) ≡ after ++ (byte ∷ rest) = drop-append-le found.size text (byte ∷ rest) fits.within in
+    tokens-alike (text ++ (byte ∷ rest)) text (after ++ (byte ∷ rest)) same fits.some left
+    ∙ ap (λ (others : List Token). found.token ∷ others) (tokens-break-within n after byte rest (omega (arith, length-drop found.size text, fits.some)) breaks both.1)
     ∙ ap (λ (all : List Token). all ++ tokens (byte ∷ rest)) (sym whole)
 
 pub tokens-break : (text : List ℕ) (byte : ℕ) (rest : List ℕ) → IsBreak byte → list_all is_ended (tokens text) ≡ true → tokens (text ++ (byte ∷ rest)) ≡ tokens text ++ tokens (byte ∷ rest)
 tokens-break text byte rest breaks ended = tokens-break-within (length text) text byte rest (omega arith) breaks ended
 
--- a text that goes on otherwise behind a byte that follows some of its tokens
-alike-behind : (count : ℕ) (text : List ℕ) (n : ℕ) (more : List ℕ) → length text - length (left_behind count text) < n → n ≤ length text → tokens (take n text ++ more) ≡ tokens (take (length text - length (left_behind count text)) text) ++ tokens (take (n - (length text - length (left_behind count text))) (left_behind count text) ++ more)
-alike-behind zero text n more below within =
+-- a text that goes on otherwise after a byte that follows some of its tokens
+alike-after : (count : ℕ) (text : List ℕ) (n : ℕ) (more : List ℕ) → length text - length (left_after count text) < n → n ≤ length text → tokens (take n text ++ more) ≡ tokens (take (length text - length (left_after count text)) text) ++ tokens (take (n - (length text - length (left_after count text))) (left_after count text) ++ more)
+alike-after zero text n more below within =
     let none : length text - length text ≡ 0 = omega arith in
     let all : n - 0 ≡ n = omega arith in
     rw (none, all, tokens-nil) refl
-alike-behind (suc count) [] n more below within = absurd (omega arith)
-alike-behind (suc count) (first ∷ bytes) n more below within =
+alike-after (suc count) [] n more below within = absurd (omega arith)
+alike-after (suc count) (first ∷ bytes) n more below within =
     let text = first ∷ bytes in
     let found = first_token text in
     let fits = first_token-fits first bytes in
-    let behind = drop found.size text in
-    let rest = left_behind count behind in
+    let after = drop found.size text in
+    let rest = left_after count after in
     let shorter = length-drop found.size text in
-    let there = (parted behind rest (record { count = count; is = refl })).within in
-    let place = length behind - length rest in
+    let there = (parted after rest (record { count = count; is = refl })).within in
+    let place = length after - length rest in
     let at : length text - length rest ≡ found.size + place = omega (arith, fits.within) in
     let later : n ≡ found.size + (n - found.size) = omega (arith, fits.within) in
     let front = take n text in
     let same_front : first_token front ≡ found = first_token-take text n (omega (arith, fits.within)) in
     let long : length front ≡ n = length-take-le n text within in
     let same : first_token (front ++ more) ≡ found = first_token-append front more (rw (same_front, long) (omega (arith, fits.within))) ∙ same_front in
-    let left : drop found.size (front ++ more) ≡ take (n - found.size) behind ++ more = drop-append-le found.size front more (omega (arith, fits.within)) ∙ ap (λ (bytes : List ℕ). bytes ++ more) (ap (λ (m : ℕ). drop found.size (take m text)) later ∙ drop-take found.size (n - found.size) text) in
+    let left : drop found.size (front ++ more) ≡ take (n - found.size) after ++ more = drop-append-le found.size front more (omega (arith, fits.within)) ∙ ap (λ (bytes : List ℕ). bytes ++ more) (ap (λ (m : ℕ). drop found.size (take m text)) later ∙ drop-take found.size (n - found.size) text) in
     let less : n - found.size - place ≡ n - (length text - length rest) = omega (arith, fits.within) in
-    tokens-alike (front ++ more) text (take (n - found.size) behind ++ more) same fits.some left
-    ∙ ap (λ (others : List Token). found.token ∷ others) (alike-behind count behind (n - found.size) more (omega (arith, fits.within)) (omega (arith, fits.within)))
+    tokens-alike (front ++ more) text (take (n - found.size) after ++ more) same fits.some left
+    ∙ ap (λ (others : List Token). found.token ∷ others) (alike-after count after (n - found.size) more (omega (arith, fits.within)) (omega (arith, fits.within)))
     ∙ ap (λ (all : List Token). all ++ tokens (take (n - found.size - place) rest ++ more)) (sym (tokens-front text place fits.some))
     ∙ ap (λ (m : ℕ). tokens (take m text) ++ tokens (take (n - found.size - place) rest ++ more)) (sym at)
     ∙ ap (λ (m : ℕ). tokens (take (length text - length rest) text) ++ tokens (take m rest ++ more)) less
 
-pub tokens-alike-behind : (text rest : List ℕ) (n : ℕ) (more : List ℕ) → IsLeft text rest → length text - length rest < n → n ≤ length text → tokens (take n text ++ more) ≡ tokens (take (length text - length rest) text) ++ tokens (take (n - (length text - length rest)) rest ++ more)
-tokens-alike-behind text rest n more left =
+pub tokens-alike-after : (text rest : List ℕ) (n : ℕ) (more : List ℕ) → IsLeft text rest → length text - length rest < n → n ≤ length text → tokens (take n text ++ more) ≡ tokens (take (length text - length rest) text) ++ tokens (take (n - (length text - length rest)) rest ++ more)
+tokens-alike-after text rest n more left =
     let P : List ℕ → Type 0 = λ rest. length text - length rest < n → n ≤ length text → tokens (take n text ++ more) ≡ tokens (take (length text - length rest) text) ++ tokens (take (n - (length text - length rest)) rest ++ more) in
-    subst P left.is (alike-behind left.count text n more)
+    subst P left.is (alike-after left.count text n more)

@@ -1,24 +1,24 @@
--- Heads by the tokens behind the kind: a text has one exactly where a name comes next, past white space and comments.
+-- Heads by the tokens after the kind: a text has one exactly where a name comes next, past white space and comments.
 use Rattle.std.proofs.Common.{◌≡◌, ℕ, suc, ◌<◌, ◌≤◌, ◌&&◌, Bool, true, false, cond, List, [], ◌∷◌, ◌++◌, length, Option, Some, None, option_map, is_some, codes, refl, sym, ◌∙◌, ap, arith, append_assoc, length-append}
 use Rattle.std.specs.Option.{option_and_then, option_or}
 use Rattle.std.specs.List.{list_all}
-use Rattle.object_texts.specs.Head.{Found, behind, behind_exists, dotted_name, head_in, kind_in, kind_of, name_at, named, path_in, with_schema}
-use Rattle.object_texts.specs.declared.head.Kind.{Kind}
-use Rattle.object_texts.specs.Token.{Token, is_gap, is_word, past_gaps}
-use Rattle.object_texts.specs.Token.Token.{comment, mark, quoted_name, string, unended, white, word}
+use Rattle.object_forms.specs.Head.{Found, after, after_exists, dotted_name, head_in, kind_in, kind_of, name_at, making_after, path_in, with_schema}
+use Rattle.object_forms.specs.declared.kind.Kind.{Kind}
+use Rattle.object_forms.specs.Token.{Token, is_gap, is_word, past_gaps}
+use Rattle.object_forms.specs.Token.Token.{comment, mark, quoted_name, string, unended, white, word}
 use Rattle.object_texts.proofs.Fronts.{is_ended}
 use Rattle.object_texts.proofs.Utf8.{both_true}
 
 -- where no name stands in front, no word does
-behind-no_name : (lower : List ℕ) (all : List Token) → name_at all ≡ None → behind (is_word lower) all ≡ None
-behind-no_name lower [] e = refl
-behind-no_name lower (word bytes ∷ all) e = absurd (cc)
-behind-no_name lower (quoted_name bytes ∷ all) e = refl
-behind-no_name lower (string ∷ all) e = refl
-behind-no_name lower (white ∷ all) e = refl
-behind-no_name lower (comment ∷ all) e = refl
-behind-no_name lower (mark byte ∷ all) e = refl
-behind-no_name lower (unended ∷ all) e = refl
+after-no_name : (lower : List ℕ) (all : List Token) → name_at all ≡ None → after (is_word lower) all ≡ None
+after-no_name lower [] e = refl
+after-no_name lower (word bytes ∷ all) e = absurd (cc)
+after-no_name lower (quoted_name bytes ∷ all) e = refl
+after-no_name lower (string ∷ all) e = refl
+after-no_name lower (white ∷ all) e = refl
+after-no_name lower (comment ∷ all) e = refl
+after-no_name lower (mark byte ∷ all) e = refl
+after-no_name lower (unended ∷ all) e = refl
 
 is_some-map : {A B : Type 0} (f : A → B) (found : Option A) → is_some (option_map f found) ≡ is_some found
 is_some-map f None = refl
@@ -28,30 +28,30 @@ is_some-or : {A : Type 0} (first second : Option A) → is_some second ≡ true 
 is_some-or None second e = e
 is_some-or (Some x) second e = refl
 
--- behind a kind an object is named exactly where a name comes next
-named-is : (kind : Found Kind) (name : Option (Found (List ℕ))) → name_at (past_gaps kind.rest) ≡ name → is_some (named kind) ≡ is_some name
+-- after a kind an object is named exactly where a name comes next
+named-is : (kind : Found Kind) (name : Option (Found (List ℕ))) → name_at (past_gaps kind.rest) ≡ name → is_some (making_after kind) ≡ is_some name
 named-is kind None e =
-    let no_if : behind (is_word (codes "if")) (past_gaps kind.rest) ≡ None = behind-no_name (codes "if") (past_gaps kind.rest) e in
+    let no_if : after (is_word (codes "if")) (past_gaps kind.rest) ≡ None = after-no_name (codes "if") (past_gaps kind.rest) e in
     rw (no_if, e) refl
 named-is kind (Some name) e =
     let path : path_in kind.rest ≡ Some (with_schema name (dotted_name name.rest)) = rw e refl in
-    is_some-map _ (option_or (option_and_then path_in (behind_exists kind.rest)) (path_in kind.rest)) ∙ is_some-or (option_and_then path_in (behind_exists kind.rest)) (path_in kind.rest) (ap is_some path)
+    is_some-map _ (option_or (option_and_then path_in (after_exists kind.rest)) (path_in kind.rest)) ∙ is_some-or (option_and_then path_in (after_exists kind.rest)) (path_in kind.rest) (ap is_some path)
 
--- behind CREATE and a kind, such tokens follow, but for white space and comments
+-- after CREATE and a kind, such tokens follow, but for white space and comments
 pub record Reaches (all rest : List Token) : Type 0 where
   pub created : List Token
   pub kind : Kind
-  pub behind_kind : List Token
-  pub create : behind (is_word (codes "create")) all ≡ Some created
-  pub kinds : kind_in created ≡ Some (record { value = kind; rest = behind_kind })
-  pub gaps : past_gaps behind_kind ≡ past_gaps rest
+  pub after_kind : List Token
+  pub create : after (is_word (codes "create")) all ≡ Some created
+  pub kinds : kind_in created ≡ Some (record { value = kind; rest = after_kind })
+  pub gaps : past_gaps after_kind ≡ past_gaps rest
 
 pub reaches-head : (all rest : List Token) → Reaches all rest → is_some (head_in all) ≡ is_some (name_at (past_gaps rest))
 reaches-head all rest reaches =
-    let found : Found Kind = record { value = reaches.kind; rest = reaches.behind_kind } in
-    ap (λ (created : Option (List Token)). is_some (option_and_then named (option_and_then kind_in created))) reaches.create
-    ∙ ap (λ (kind : Option (Found Kind)). is_some (option_and_then named kind)) reaches.kinds
-    ∙ named-is found (name_at (past_gaps reaches.behind_kind)) refl ∙ ap (λ (left : List Token). is_some (name_at left)) reaches.gaps
+    let found : Found Kind = record { value = reaches.kind; rest = reaches.after_kind } in
+    ap (λ (created : Option (List Token)). is_some (option_and_then making_after (option_and_then kind_in created))) reaches.create
+    ∙ ap (λ (kind : Option (Found Kind)). is_some (option_and_then making_after kind)) reaches.kinds
+    ∙ named-is found (name_at (past_gaps reaches.after_kind)) refl ∙ ap (λ (left : List Token). is_some (name_at left)) reaches.gaps
 
 rest_of : Option (Found Kind) → List Token
 rest_of None = []
@@ -64,7 +64,7 @@ value_of other (Some found) = found.value
 abbrev pub from_kind : Option Kind → List Token → Option (Found Kind)
 from_kind found all = option_or (option_map (λ (kind : Kind). record { value = kind; rest = all }) found) (kind_in all)
 
--- what stands behind the kind is shorter
+-- what stands after the kind is shorter
 shorter-of : (found : Option Kind) (all rest : List Token) (kind : Kind) → (kind_in all ≡ Some (record { value = kind; rest = rest }) → length rest < length all) → from_kind found all ≡ Some (record { value = kind; rest = rest }) → length rest < suc (length all)
 unfolding rest_of
 shorter-of None all rest kind later e = let below = later e in omega arith
@@ -163,17 +163,17 @@ pub record IsFront (front : List Token) : Type 0 where
   pub ended : list_all is_ended front ≡ true
   pub goes_on : (others : List Token) → Reaches (front ++ others) others
 
-pub front-is : (created : Token) (front gaps behind rest : List Token) (kind : Kind) → is_word (codes "create") created ≡ true → EndsLast (front ++ behind) → kind_in (front ++ behind) ≡ Some (record { value = kind; rest = behind }) → behind ≡ gaps ++ rest → past_gaps behind ≡ rest → IsFront (created ∷ (front ++ gaps))
-front-is created front gaps behind rest kind create last kinds split past =
+pub front-is : (created : Token) (front gaps after rest : List Token) (kind : Kind) → is_word (codes "create") created ≡ true → EndsLast (front ++ after) → kind_in (front ++ after) ≡ Some (record { value = kind; rest = after }) → after ≡ gaps ++ rest → past_gaps after ≡ rest → IsFront (created ∷ (front ++ gaps))
+front-is created front gaps after rest kind create last kinds split past =
     let passed : past_gaps (gaps ++ rest) ≡ rest = ap past_gaps (sym split) ∙ past in
     record {
-      ended = rw (word-ended (codes "create") created create) (all_both front gaps (kind_in-ended front behind kind last kinds) (past-ended gaps rest passed));
+      ended = rw (word-ended (codes "create") created create) (all_both front gaps (kind_in-ended front after kind last kinds) (past-ended gaps rest passed));
       goes_on = λ others. record {
         created = front ++ (gaps ++ others);
         kind = kind;
-        behind_kind = gaps ++ others;
+        after_kind = gaps ++ others;
         create = rw create (ap (λ (all : List Token). Some all) (append_assoc front gaps others));
-        kinds = kind_in-front front behind (gaps ++ others) kind kinds;
+        kinds = kind_in-front front after (gaps ++ others) kind kinds;
         gaps = past-front gaps rest others passed;
       };
     }

@@ -4,11 +4,11 @@ use Rattle.std.proofs.Math.Seq.{take-add}
 use Rattle.std.proofs.lemmas.List.{take_all}
 use Rattle.grammar.specs.Language.{Begins, Refused}
 use Rattle.std.specs.Option.{option_and_then}
-use Rattle.object_texts.specs.declared.head.Kind.{Kind}
-use Rattle.object_texts.specs.Head.{Found, HasHead, behind, head, kind_in, name_at, named}
+use Rattle.object_forms.specs.declared.kind.Kind.{Kind}
+use Rattle.object_forms.specs.Head.{Found, HasHead, after, head, kind_in, name_at, making_after}
 use Rattle.object_texts.specs.Left.{name_place, place_in, place_of}
-use Rattle.object_texts.specs.Token.{Lexeme, Token, closing, comment_end, comment_lexeme, first_token, is_gap, is_quote, is_white, is_word, is_word_byte, past_gaps, quoted_lexeme, slash_lexeme, tokens}
-use Rattle.object_texts.specs.Token.Token.{comment, mark, quoted_name, string, unended, white, word}
+use Rattle.object_forms.specs.Token.{Lexeme, Token, closing, comment_end, comment_lexeme, first_token, is_gap, is_quote, is_white, is_word, is_word_byte, past_gaps, quoted_lexeme, slash_lexeme, tokens}
+use Rattle.object_forms.specs.Token.Token.{comment, mark, quoted_name, string, unended, white, word}
 use Rattle.object_texts.proofs.Closers.{comment-tokens, creates, quote-tokens, space-breaks}
 use Rattle.object_texts.proofs.Cuts.{parted}
 use Rattle.object_texts.proofs.HeadPlaces.{Stands, alike-head, begins-with, break-head, has-head, head-of, is_created, none-created, refused-at}
@@ -104,7 +104,7 @@ refused-slash text bytes stands none no_name =
     let rest = 47 ∷ bytes in
     let place = length text - length rest in
     let parts = parted text rest stands.left in
-    let front : take (place + 1) text ≡ take place text ++ (47 ∷ []) = take-add place 1 text ∙ ap (λ (left : List ℕ). take place text ++ take 1 left) parts.behind in
+    let front : take (place + 1) text ≡ take place text ++ (47 ∷ []) = take-add place 1 text ∙ ap (λ (left : List ℕ). take place text ++ take 1 left) parts.after in
     let more = codes "**/ t" in
     let joined : take (place + 1) text ++ more ≡ take place text ++ codes "/**/ t" = ap (λ (bytes : List ℕ). bytes ++ more) front ∙ append_assoc (take place text) (47 ∷ []) more in
     let begins : is_some (head (take (place + 1) text ++ more)) ≡ true = ap (λ (bytes : List ℕ). is_some (head bytes)) joined ∙ break-head stands 47 (codes "**/ t") slash-breaks ∙ slashed-name in
@@ -135,7 +135,7 @@ first-no_gap byte bytes stands =
     let whole = tokens-cons byte bytes in
     gap-first (is_gap found.token) found.token (tokens (drop found.size (byte ∷ bytes))) refl (sym (ap past_gaps whole) ∙ stands.gapless ∙ whole)
 
--- where a text stands that begins so, it is refused behind so many bytes more
+-- where a text stands that begins so, it is refused after so many bytes more
 abbrev RefusedBy : List ℕ → List ℕ → ℕ → Type 0
 RefusedBy text rest n = Refused HasHead text (length text - length rest + n)
 
@@ -216,7 +216,7 @@ place-some byte size (comment ∷ all) e = absurd (cc)
 place-some byte size (mark other ∷ all) e = absurd (cc)
 place-some byte size (unended ∷ all) e = absurd (cc)
 
--- where no name stands the text is refused, so many bytes behind
+-- where no name stands the text is refused, so many bytes after
 pub stands-refused : (text rest : List ℕ) (n : ℕ) → Stands text rest → Some n ≡ name_place rest → Refused HasHead text (length text - length rest + n)
 stands-refused text [] n stands place =
     let none = head-of stands ∙ place-none 0 0 n (tokens []) place in
@@ -230,19 +230,19 @@ stands-refused text (byte ∷ bytes) n stands place =
 pub stands-named : (text rest : List ℕ) → Stands text rest → None ≡ name_place rest → HasHead text
 stands-named text rest stands place = has-head text (head-of stands ∙ place-some (slice_index rest 0) (length rest) (tokens rest) place)
 
--- where no kind comes behind CREATE, the text goes along to its end
-created-first : (first : ℕ) (bytes created : List ℕ) → Some (tokens created) ≡ behind (is_word (codes "create")) (tokens (first ∷ bytes)) → created ≡ drop (first_token (first ∷ bytes)).size (first ∷ bytes) → None ≡ kind_in (tokens created) → Refused HasHead (first ∷ bytes) (length (first ∷ bytes))
+-- where no kind comes after CREATE, the text goes along to its end
+created-first : (first : ℕ) (bytes created : List ℕ) → Some (tokens created) ≡ after (is_word (codes "create")) (tokens (first ∷ bytes)) → created ≡ drop (first_token (first ∷ bytes)).size (first ∷ bytes) → None ≡ kind_in (tokens created) → Refused HasHead (first ∷ bytes) (length (first ∷ bytes))
 created-first first bytes created create at none =
     let text = first ∷ bytes in
     let word = is_created first bytes created (sym create) in
     let goes_on = creates first bytes word (sym (ap (λ (left : List ℕ). kind_in (tokens left)) at) ∙ sym none) in
     let no_head : is_some (head text) ≡ false =
-    ap (λ (created : Option (List Token)). is_some (option_and_then named (option_and_then kind_in created))) (sym create)
-    ∙ ap (λ (kind : Option (Found Kind)). is_some (option_and_then named kind)) (sym none) in
+    ap (λ (created : Option (List Token)). is_some (option_and_then making_after (option_and_then kind_in created))) (sym create)
+    ∙ ap (λ (kind : Option (Found Kind)). is_some (option_and_then making_after kind)) (sym none) in
     let whole : take (length text) text ++ goes_on.more ≡ text ++ goes_on.more = ap (λ (bytes : List ℕ). bytes ++ goes_on.more) (take_all (length text) text (omega arith)) in
     let begins : is_some (head (take (length text) text ++ goes_on.more)) ≡ true = ap (λ (bytes : List ℕ). is_some (head bytes)) whole ∙ reaches-head (tokens (text ++ goes_on.more)) (tokens (codes " t")) goes_on.reaches ∙ name-comes in
     refused-at text (length text) (omega arith) no_head (begins-with (take (length text) text) goes_on.more begins) (λ n above within more. absurd (omega arith))
 
-pub created-refused : (text created : List ℕ) → Some (tokens created) ≡ behind (is_word (codes "create")) (tokens text) → created ≡ drop (first_token text).size text → None ≡ kind_in (tokens created) → Refused HasHead text (length text)
+pub created-refused : (text created : List ℕ) → Some (tokens created) ≡ after (is_word (codes "create")) (tokens text) → created ≡ drop (first_token text).size text → None ≡ kind_in (tokens created) → Refused HasHead text (length text)
 created-refused [] created create at none = absurd (none-created created (sym create))
 created-refused (first ∷ bytes) created create at none = created-first first bytes created create at none

@@ -3,8 +3,8 @@ use Rattle.std.proofs.Common.{◌≡◌, ◌⊎◌, ℕ, suc, ◌+◌, ◌-◌, 
 use Rattle.std.specs.List.{prefix_len}
 use Rattle.std.proofs.lemmas.List.{take-append-le}
 use Rattle.std.proofs.lemmas.List.Sums.{prefix_len-le-length}
-use Rattle.object_texts.specs.Token.{Lexeme, closing, comment_end, comment_lexeme, ends_comment, first_token, is_quote, is_white, is_word_byte, more, quoted_lexeme, slash_lexeme, word_lexeme}
-use Rattle.object_texts.specs.Token.Token.{unended}
+use Rattle.object_forms.specs.Token.{Lexeme, closing, comment_end, comment_lexeme, ends_comment, first_token, is_quote, is_white, is_word_byte, more, quoted_lexeme, slash_lexeme, word_lexeme}
+use Rattle.object_forms.specs.Token.Token.{unended}
 use Rattle.object_texts.proofs.Cuts.{cond_both}
 use Rattle.object_texts.proofs.Tokens.{EndsWithin, closing-within}
 
@@ -38,7 +38,7 @@ closing-longer quote (first ∷ next ∷ bytes) byte rest =
     (cond_both (Again E n) (next == quote) both (λ apart. refl))
     (cond_both (Again E n) (first == 92 && not (quote == 96)) both (more-again E 1 (suc (length bytes)) n (closing quote (next ∷ bytes ++ (byte ∷ rest))) (closing quote (next ∷ bytes)) (omega arith) (closing-longer quote (next ∷ bytes) byte rest)))
 
--- the same of comments, whose end looks at no byte behind it
+-- the same of comments, whose end looks at no byte after it
 abbrev Found : Option ℕ → Option ℕ → Type 0
 Found again None = Unit {0}
 Found again (Some size) = again ≡ Some size

@@ -3,7 +3,7 @@ use Rattle.std.proofs.Common.{◌≡◌, ℕ, suc, ◌+◌, ◌<◌, ◌≤◌, 
 use Rattle.std.proofs.lemmas.List.{drop-drop}
 use Rattle.std.proofs.lemmas.List.Sums.{prefix_len-drop_yes, prefix_len-drop_no, prefix_len-drop_all}
 use Rattle.object_texts.specs.Reading.{closes, quoted_step}
-use Rattle.object_texts.specs.Token.{closing, comment_end, ends_comment, more}
+use Rattle.object_forms.specs.Token.{closing, comment_end, ends_comment, more}
 
 more-more : (n m : ℕ) (size : Option ℕ) → more n (more m size) ≡ more (n + m) size
 more-more n m None = refl
@@ -59,14 +59,14 @@ pub closing-past : (quote at : ℕ) (text : List ℕ) → length text ≤ at →
 closing-past quote at text past = rw (drop_of_length-le text past) refl
 
 comment_end-drop : (at : ℕ) (text rest : List ℕ) (byte next : ℕ) → drop at text ≡ byte ∷ next ∷ rest → drop (at + 1) text ≡ next ∷ rest → more at (comment_end (drop at text)) ≡ cond (ends_comment byte next) (Some (at + 2)) (more (at + 1) (comment_end (drop (at + 1) text)))
-comment_end-drop at text rest byte next front behind = rw (front, behind) (more-cond at 2 1 (ends_comment byte next) (comment_end (next ∷ rest)))
+comment_end-drop at text rest byte next front after = rw (front, after) (more-cond at 2 1 (ends_comment byte next) (comment_end (next ∷ rest)))
 
 two-at : (at : ℕ) (text : List ℕ) → at + 1 < length text → more at (comment_end (drop at text)) ≡ cond (ends_comment (get_or text at 0) (get_or text (at + 1) 0)) (Some (at + 2)) (more (at + 1) (comment_end (drop (at + 1) text)))
 two-at at text inside =
-    let behind = drop-at text (at + 1) inside in
+    let after = drop-at text (at + 1) inside in
     let first : at < length text = omega arith in
-    let front : drop at text ≡ get_or text at 0 ∷ get_or text (at + 1) 0 ∷ drop (at + 1 + 1) text = drop-at text at first ∙ ap (λ (left : List ℕ). get_or text at 0 ∷ left) behind in
-    comment_end-drop at text (drop (at + 1 + 1) text) (get_or text at 0) (get_or text (at + 1) 0) front behind
+    let front : drop at text ≡ get_or text at 0 ∷ get_or text (at + 1) 0 ∷ drop (at + 1 + 1) text = drop-at text at first ∙ ap (λ (left : List ℕ). get_or text at 0 ∷ left) after in
+    comment_end-drop at text (drop (at + 1 + 1) text) (get_or text at 0) (get_or text (at + 1) 0) front after
 
 pub comment_end-ends : (at : ℕ) (text : List ℕ) → at + 1 < length text → ends_comment (get_or text at 0) (get_or text (at + 1) 0) ≡ true → more at (comment_end (drop at text)) ≡ Some (at + 2)
 comment_end-ends at text inside ends = two-at at text inside ∙ rw ends refl

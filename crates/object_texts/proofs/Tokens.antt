@@ -1,9 +1,9 @@
--- The first token of a text, and those behind it.
+-- The first token of a text, and those after it.
 use Rattle.std.proofs.Common.{◌≡◌, ℕ, suc, zero, ◌+◌, ◌-◌, ◌≤◌, ◌==◌, ◌&&◌, not, Bool, true, false, cond, List, [], ◌∷◌, length, drop, Option, Some, None, refl, sym, ap, subst, arith, length-drop}
 use Rattle.std.specs.List.{prefix_len}
 use Rattle.std.proofs.lemmas.List.Sums.{prefix_len-le-length}
-use Rattle.object_texts.specs.Token.{Lexeme, Token, closing, comment_end, comment_lexeme, ends_comment, first_token, is_quote, is_white, is_word_byte, more, quoted_lexeme, slash_lexeme, tokens, tokens_within, word_lexeme}
-use Rattle.object_texts.specs.Token.Token.{mark, white}
+use Rattle.object_forms.specs.Token.{Lexeme, Token, closing, comment_end, comment_lexeme, ends_comment, first_token, is_quote, is_white, is_word_byte, more, quoted_lexeme, slash_lexeme, tokens, tokens_within, word_lexeme}
+use Rattle.object_forms.specs.Token.Token.{mark, white}
 
 -- what holds of either choice holds of the one that is made
 pub cond_by : {A : Type 0} (P : A → Type 0) (test : Bool) (x y : A) → (test ≡ true → P x) → (test ≡ false → P y) → P (cond test x y)
@@ -79,19 +79,19 @@ first_token-fits byte bytes =
     (λ a b c d. slash-fits bytes)
     (λ a b c d. record { some = omega arith; within = omega arith })
 
--- what is left behind the first token
-unfoldable pub behind_first : List ℕ → List ℕ
-behind_first bytes = drop (first_token bytes).size bytes
+-- what is left after the first token
+unfoldable pub after_first : List ℕ → List ℕ
+after_first bytes = drop (first_token bytes).size bytes
 
-pub behind_first-shorter : (byte : ℕ) (bytes : List ℕ) → length (behind_first (byte ∷ bytes)) ≤ length bytes
-unfolding behind_first
-behind_first-shorter byte bytes =
+pub after_first-shorter : (byte : ℕ) (bytes : List ℕ) → length (after_first (byte ∷ bytes)) ≤ length bytes
+unfolding after_first
+after_first-shorter byte bytes =
     let fits = first_token-fits byte bytes in
     omega (arith, length-drop (first_token (byte ∷ bytes)).size (byte ∷ bytes), fits.some)
 
 -- more than enough tokens are no more than enough
 enough : (n m : ℕ) (bytes : List ℕ) → length bytes ≤ n → length bytes ≤ m → tokens_within n bytes ≡ tokens_within m bytes
-unfolding behind_first
+unfolding after_first
 enough zero zero [] a b = refl
 enough zero (suc m) [] a b = refl
 enough (suc n) zero [] a b = refl
@@ -99,19 +99,19 @@ enough (suc n) (suc m) [] a b = refl
 enough zero m (byte ∷ bytes) a b = absurd (omega arith)
 enough (suc n) zero (byte ∷ bytes) a b = absurd (omega arith)
 enough (suc n) (suc m) (byte ∷ bytes) a b =
-    let shorter = behind_first-shorter byte bytes in
-    ap (λ (left : List Token). (first_token (byte ∷ bytes)).token ∷ left) (enough n m (behind_first (byte ∷ bytes)) (omega arith) (omega arith))
+    let shorter = after_first-shorter byte bytes in
+    ap (λ (left : List Token). (first_token (byte ∷ bytes)).token ∷ left) (enough n m (after_first (byte ∷ bytes)) (omega arith) (omega arith))
 
 pub tokens-nil : tokens [] ≡ []
 unfolding tokens
 tokens-nil = refl
 
--- the tokens of a text are its first one, and those of what is behind it
+-- the tokens of a text are its first one, and those of what is after it
 pub tokens-cons : (byte : ℕ) (bytes : List ℕ) → tokens (byte ∷ bytes) ≡ (first_token (byte ∷ bytes)).token ∷ tokens (drop (first_token (byte ∷ bytes)).size (byte ∷ bytes))
-unfolding tokens behind_first
+unfolding tokens after_first
 tokens-cons byte bytes =
-    let shorter = behind_first-shorter byte bytes in
-    ap (λ (left : List Token). (first_token (byte ∷ bytes)).token ∷ left) (enough (length bytes) (length (behind_first (byte ∷ bytes))) (behind_first (byte ∷ bytes)) (omega arith) (omega arith))
+    let shorter = after_first-shorter byte bytes in
+    ap (λ (left : List Token). (first_token (byte ∷ bytes)).token ∷ left) (enough (length bytes) (length (after_first (byte ∷ bytes))) (after_first (byte ∷ bytes)) (omega arith) (omega arith))
 
 -- the first token of a text that isn't empty
 pub record IsFirst (bytes : List ℕ) (size : ℕ) (token : Token) : Type 0 where

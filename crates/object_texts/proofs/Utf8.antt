@@ -3,13 +3,13 @@ use Rattle.std.proofs.Common.{◌≡◌, ℕ, ◌+◌, ◌<◌, ◌==◌, ◌&&�
 use Rattle.std.proofs.Math.Seq.{drop-append-add, get_or-append_seam, take-append_seam}
 use Rattle.std.specs.Str.{is_utf8}
 use Rattle.std.proofs.lemmas.Str.{IsCharBoundary-after_ascii, IsCharBoundary-before_ascii, IsUtf8-append, IsUtf8-drop, IsUtf8-from_is_utf8, IsUtf8-nil, IsUtf8-take, is_utf8-from_IsUtf8}
-use Rattle.object_texts.specs.Shape.{undoubled}
+use Rattle.object_forms.specs.Shape.{name_value}
 use Rattle.object_texts.proofs.Tokens.{cond_by}
 
 -- text on both sides of a backquote
 pub record Sides (front back : List ℕ) : Type 0 where
   pub before : IsUtf8 front
-  pub behind : IsUtf8 back
+  pub after : IsUtf8 back
 
 sides : (front back : List ℕ) → IsUtf8 (front ++ (96 ∷ back)) → Sides front back
 sides front back whole =
@@ -18,7 +18,7 @@ sides front back whole =
     let ascii : get_or text (length front) 0 < 128 = omega (arith, get_or-append_seam front 96 back 0) in
     record {
       before = subst IsUtf8 (take-append_seam front (96 ∷ back)) (IsUtf8-take text (length front) whole (IsCharBoundary-before_ascii text (length front) long ascii));
-      behind = subst IsUtf8 (drop-append-add front (96 ∷ back) 1) (IsUtf8-drop text (length front + 1) whole (IsCharBoundary-after_ascii text (length front) whole long ascii));
+      after = subst IsUtf8 (drop-append-add front (96 ∷ back) 1) (IsUtf8-drop text (length front + 1) whole (IsCharBoundary-after_ascii text (length front) whole long ascii));
     }
 
 backquote : IsUtf8 (96 ∷ [])
@@ -37,39 +37,39 @@ pub both_true : (a b : Bool) → (a && b) ≡ true → (a ≡ true) × (b ≡ tr
 both_true true b e = (refl, e)
 both_true false b e = absurd (cc)
 
-same-behind : (front name : List ℕ) → Same (front ++ name) (front ++ undoubled name)
-same-behind front [] = record { there = λ u. u; back = λ u. u }
-same-behind front (byte ∷ []) = record { there = λ u. u; back = λ u. u }
-same-behind front (byte ∷ next ∷ bytes) =
+same-after : (front name : List ℕ) → Same (front ++ name) (front ++ name_value name)
+same-after front [] = record { there = λ u. u; back = λ u. u }
+same-after front (byte ∷ []) = record { there = λ u. u; back = λ u. u }
+same-after front (byte ∷ next ∷ bytes) =
     let P : List ℕ → Type 0 = λ name. Same (front ++ (byte ∷ next ∷ bytes)) (front ++ name) in
     cond_by P (byte == 96 && next == 96) _ _
     (λ e.
     let two = both_true (byte == 96) (next == 96) e in
     let first : byte ≡ 96 = eqb-true byte 96 two.0 in
     let second : next ≡ 96 = eqb-true next 96 two.1 in
-    let shorter = same-behind [] bytes in
-    let Q : List ℕ → Type 0 = λ name. Same name (front ++ (96 ∷ undoubled bytes)) in
+    let shorter = same-after [] bytes in
+    let Q : List ℕ → Type 0 = λ name. Same name (front ++ (96 ∷ name_value bytes)) in
     subst Q (ap (λ (b : ℕ). front ++ (b ∷ next ∷ bytes)) (sym first) ∙ refl) (
-    let R : List ℕ → Type 0 = λ name. Same name (front ++ (96 ∷ undoubled bytes)) in
+    let R : List ℕ → Type 0 = λ name. Same name (front ++ (96 ∷ name_value bytes)) in
     subst R (ap (λ (b : ℕ). front ++ (96 ∷ b ∷ bytes)) (sym second)) (record {
-      there = λ whole. let outer = sides front (96 ∷ bytes) whole in let inner = sides [] bytes outer.behind in together front (undoubled bytes) outer.before (shorter.there inner.behind);
-      back = λ whole. let outer = sides front (undoubled bytes) whole in together front (96 ∷ bytes) outer.before (together [] bytes IsUtf8-nil (shorter.back outer.behind));
+      there = λ whole. let outer = sides front (96 ∷ bytes) whole in let inner = sides [] bytes outer.after in together front (name_value bytes) outer.before (shorter.there inner.after);
+      back = λ whole. let outer = sides front (name_value bytes) whole in together front (96 ∷ bytes) outer.before (together [] bytes IsUtf8-nil (shorter.back outer.after));
     })))
     (λ e.
-    let shorter = same-behind (front ++ (byte ∷ [])) (next ∷ bytes) in
+    let shorter = same-after (front ++ (byte ∷ [])) (next ∷ bytes) in
     let whole : (front ++ (byte ∷ [])) ++ (next ∷ bytes) ≡ front ++ (byte ∷ next ∷ bytes) = append_assoc front (byte ∷ []) (next ∷ bytes) in
-    let again : (front ++ (byte ∷ [])) ++ undoubled (next ∷ bytes) ≡ front ++ (byte ∷ undoubled (next ∷ bytes)) = append_assoc front (byte ∷ []) (undoubled (next ∷ bytes)) in
+    let again : (front ++ (byte ∷ [])) ++ name_value (next ∷ bytes) ≡ front ++ (byte ∷ name_value (next ∷ bytes)) = append_assoc front (byte ∷ []) (name_value (next ∷ bytes)) in
     record { there = λ u. subst IsUtf8 again (shorter.there (subst IsUtf8 (sym whole) u)); back = λ u. subst IsUtf8 whole (shorter.back (subst IsUtf8 (sym again) u)) })
 
-pub is_utf8-undoubled : (name : List ℕ) → IsUtf8 name → is_utf8 (undoubled name) ≡ true
-is_utf8-undoubled name u = is_utf8-from_IsUtf8 (undoubled name) ((same-behind [] name).there u)
+pub is_utf8-undoubled : (name : List ℕ) → IsUtf8 name → is_utf8 (name_value name) ≡ true
+is_utf8-undoubled name u = is_utf8-from_IsUtf8 (name_value name) ((same-after [] name).there u)
 
 not_true : (b : Bool) → (b ≡ true → ⊥) → b ≡ false
 not_true true never = absurd (never refl)
 not_true false never = refl
 
-pub is_utf8-none : (name : List ℕ) → (IsUtf8 name → ⊥) → is_utf8 (undoubled name) ≡ false
-is_utf8-none name never = not_true (is_utf8 (undoubled name)) (λ e. never ((same-behind [] name).back (IsUtf8-from_is_utf8 (undoubled name) e)))
+pub is_utf8-none : (name : List ℕ) → (IsUtf8 name → ⊥) → is_utf8 (name_value name) ≡ false
+is_utf8-none name never = not_true (is_utf8 (name_value name)) (λ e. never ((same-after [] name).back (IsUtf8-from_is_utf8 (name_value name) e)))
 
 pub is_utf8-is : (bytes : List ℕ) → IsUtf8 bytes → is_utf8 bytes ≡ true
 is_utf8-is bytes u = is_utf8-from_IsUtf8 bytes u

@@ -1,19 +1,19 @@
--- What is left of a text behind some of its tokens.
+-- What is left of a text after some of its tokens.
 use Rattle.std.specs.Prelude.{◌≡◌, ℕ, zero, suc, ◌==◌, ◌||◌, if◌then◌else◌, List, [], ◌∷◌, drop, length, slice_index, Option, Some, None}
 use Rattle.std.specs.Char.{to_ascii_lowercase}
 use Rattle.std.specs.List.{common_prefix_len}
-use Rattle.object_texts.specs.Token.{Token, first_token, tokens}
-use Rattle.object_texts.specs.Token.Token.{word, quoted_name, mark, unended}
+use Rattle.object_forms.specs.Token.{Token, first_token, tokens}
+use Rattle.object_forms.specs.Token.Token.{word, quoted_name, mark, unended}
 
--- what is left behind so many tokens
-abbrev pub left_behind : ℕ → List ℕ → List ℕ
-left_behind zero bytes = bytes
-left_behind (suc n) bytes = left_behind n (drop (first_token bytes).size bytes)
+-- what is left after so many tokens
+abbrev pub left_after : ℕ → List ℕ → List ℕ
+left_after zero bytes = bytes
+left_after (suc n) bytes = left_after n (drop (first_token bytes).size bytes)
 
--- the rest of a text is what is left behind some of its tokens
+-- the rest of a text is what is left after some of its tokens
 pub record IsLeft (text rest : List ℕ) : Type 0 where
   pub count : ℕ
-  pub is : left_behind count text ≡ rest
+  pub is : left_after count text ≡ rest
 
 -- how many bytes of a word stand at the front, in any case, where the word is given in lower case
 abbrev pub agreement : List ℕ → List ℕ → ℕ

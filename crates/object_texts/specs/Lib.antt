@@ -1,5 +1,2 @@
-pub mod Token
-pub mod Head
-pub mod Shape
 pub mod Left
 pub mod Reading

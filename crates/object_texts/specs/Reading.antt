@@ -3,19 +3,19 @@ use Rattle.std.specs.Prelude.{ℕ, Bool, [], ◌∷◌, ◌==◌, ◌&&◌, ◌|
 use Rattle.std.specs.Char.{to_ascii_lowercase}
 use Rattle.std.specs.List.{filter_map, list_all}
 use Rattle.std.specs.Str.{is_utf8}
-use Rattle.object_texts.specs.Token.{Lexeme, Token, tokens}
-use Rattle.object_texts.specs.Token.Token.{word, quoted_name, string, white, comment, mark, unended}
+use Rattle.object_forms.specs.Token.{Lexeme, Token, tokens}
+use Rattle.object_forms.specs.Token.Token.{word, quoted_name, string, white, comment, mark, unended}
 use Rattle.object_texts.specs.declared.token.Token as read
 use Rattle.object_texts.specs.declared.token.Token.TheVariants.{Word, QuotedName, String, White, Comment, Mark, Unended}
 use Rattle.object_texts.specs.declared.token.Lexeme as lexed
 use Rattle.object_texts.specs.declared.head.Head as read_head
 use Rattle.object_texts.specs.declared.head.Path as read_path
-use Rattle.object_texts.specs.Head.{Found, Path, Making}
+use Rattle.object_forms.specs.Head.{Found, Path, Making}
 use Rattle.object_texts.specs.declared.column.Declared as read_column
 use Rattle.object_texts.specs.declared.table.Table as read_table
 use Rattle.object_texts.specs.declared.counter.Counter as read_counter
-use Rattle.object_texts.specs.declared.shape.Column.{Column}
-use Rattle.object_texts.specs.Shape.{Enclosed, TableCounter, TableShape, Told, column_of, is_auto, key_of, parts, told, type_named}
+use Rattle.object_forms.specs.declared.shape.Column.{Column}
+use Rattle.object_forms.specs.Shape.{Enclosed, TableCounter, TableShape, ColumnItem, column_of, is_auto, key_of, parts, column_item, type_named}
 
 abbrev pub token_of : read.Token → Token
 token_of (Word bytes) = word bytes.now
@@ -27,7 +27,7 @@ token_of (Mark byte) = mark byte
 token_of Unended = unended
 
 abbrev pub lexeme_of : lexed.Lexeme → Lexeme
-lexeme_of found = record { size = found.size; token = token_of found.token }
+lexeme_of found_before = record { size = found_before.size; token = token_of found_before.token }
 
 -- how many bytes are passed over at once inside quotes, at a byte that doesn't end them
 abbrev pub quoted_step : ℕ → ℕ → ℕ
@@ -39,9 +39,9 @@ closes quote [] = false
 closes quote (byte ∷ []) = byte == quote
 closes quote (byte ∷ next ∷ bytes) = byte == quote && not (next == quote)
 
--- what was found, and the tokens of the text behind it
-abbrev pub found : {A : Type 0} → A → List ℕ → Found A
-found value text = record { value = value; rest = tokens text }
+-- what was found, and the tokens of the text after it
+abbrev pub found_before : {A : Type 0} → A → List ℕ → Found A
+found_before value text = record { value = value; rest = tokens text }
 
 abbrev pub path_of : read_path.Path → Path
 path_of path = record { schema = option_copied path.schema; name = path.name.now }
@@ -52,9 +52,9 @@ making_of head = record { kind = head.kind; path = record { schema = option_copi
 abbrev pub path : Option (List ℕ) → List ℕ → Path
 path schema name = record { schema = schema; name = name }
 
--- what stands in one text, and what stands in the text behind it
-abbrev pub enclosed : List ℕ → List ℕ → Enclosed
-enclosed inner behind = record { inner = tokens inner; behind = tokens behind }
+-- what stands in one text, and what stands in the text after it
+abbrev pub enclosed_texts : List ℕ → List ℕ → Enclosed
+enclosed_texts inner after = record { inner = tokens inner; after = tokens after }
 
 -- the parts that are left of a text, if one is
 abbrev pub parts_left : Option (List ℕ) → List (List Token)
@@ -64,12 +64,12 @@ parts_left (Some text) = parts 0 (tokens text)
 abbrev pub with_parts : List Token → Option (List ℕ) → List (List Token)
 with_parts part rest = part ∷ parts_left rest
 
--- the type word of these letters, and what stands behind it
-abbrev pub typed : List ℕ → List ℕ → Found (List ℕ)
-typed letters text = record { value = type_named (map to_ascii_lowercase letters); rest = tokens text }
+-- the type word of these letters, and what stands after it
+abbrev pub type_of : List ℕ → List ℕ → Found (List ℕ)
+type_of letters text = record { value = type_named (map to_ascii_lowercase letters); rest = tokens text }
 
-abbrev pub told_of : read_column.Declared → Told
-told_of column = told column.name.now (typed column.type_word.now column.rest.now)
+abbrev pub item_of : read_column.Declared → ColumnItem
+item_of column = column_item column.name.now (type_of column.type_word.now column.rest.now)
 
 -- how many bytes stand for the first one of a name
 abbrev pub doubled_step : List ℕ → ℕ
@@ -78,16 +78,16 @@ doubled_step (byte ∷ []) = 1
 doubled_step (byte ∷ next ∷ bytes) = if byte == 96 && next == 96 then 2 else 1
 
 -- the columns of the items that a text has
-abbrev pub told_in : List ℕ → List Told
-told_in items = filter_map column_of (parts 0 (tokens items))
+abbrev pub column_items : List ℕ → List ColumnItem
+column_items items = filter_map column_of (parts 0 (tokens items))
 
 abbrev pub columns_in : List ℕ → List Column
-columns_in items = map (λ told. told.column) (told_in items)
+columns_in items = map (λ column_item. column_item.column) (column_items items)
 
 -- the column of an item, where it has one
-abbrev pub columns_of : Option Told → List Column
+abbrev pub columns_of : Option ColumnItem → List Column
 columns_of None = []
-columns_of (Some told) = told.column ∷ []
+columns_of (Some column_item) = column_item.column ∷ []
 
 abbrev pub names_are : List Column → Bool
 names_are columns = list_all (λ column. is_utf8 column.name) columns
@@ -95,16 +95,16 @@ names_are columns = list_all (λ column. is_utf8 column.name) columns
 -- the shape of a table whose items, engine and rest were found, with its columns and its key
 abbrev pub table_of : read_table.Table → TableShape
 table_of table = record {
-  columns = told_in table.items.now;
+  columns = column_items table.items.now;
   key = key_of (parts 0 (tokens table.items.now)) (columns_in table.items.now);
   engine = table.engine.now;
-  behind = tokens table.behind.now;
+  after = tokens table.after.now;
 }
 
 -- whether an item is a column with AUTO_INCREMENT
-abbrev pub is_auto_column : Option Told → Bool
+abbrev pub is_auto_column : Option ColumnItem → Bool
 is_auto_column None = false
-is_auto_column (Some told) = is_auto told
+is_auto_column (Some column_item) = is_auto column_item
 
-abbrev pub counter_told : read_counter.Counter → TableCounter
-counter_told counter = record { column = counter.column; next = counter.next }
+abbrev pub table_counter : read_counter.Counter → TableCounter
+table_counter counter = record { column = counter.column; next = counter.next }

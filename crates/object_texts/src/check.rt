@@ -1,11 +1,11 @@
 // Where a text leaves the texts with heads.
 ghost use Rattle.std.specs.Prelude.{◌≡◌, ◌≤◌, length, IfSome, MatchResult};
 ghost use Rattle.grammar.specs.Language.{Refused};
-ghost use Rattle.object_texts.specs.Head.{HasHead};
+ghost use Rattle.object_forms.specs.Head.{HasHead};
 ghost use Rattle.object_texts.specs.Left.{agreement, name_place};
 
 use crate::head::kind_in;
-use crate::token::{Token, behind_front_word, next_token, past_gaps};
+use crate::token::{Token, after_front_word, next_token, past_gaps};
 
 // How many bytes of a word stand at the front, in any case, where the word is given in lower case.
 #[tactic(auto, using(crate::proofs::Agreements::agreements))]
@@ -40,20 +40,20 @@ fn name_place(text: &[u8]) -> Option<usize>
 
 /// Whether a text has a head. `Err` is the place where it leaves the texts with heads: the length of
 /// the longest prefix with which some text begins that has one. That is as much of the word CREATE
-/// as stands at the front; else the whole length where no kind comes, or where the text ends behind
-/// the kind in white space, a comment or a name that nothing ends; else the place of the byte behind
+/// as stands at the front; else the whole length where no kind comes, or where the text ends after
+/// the kind in white space, a comment or a name that nothing ends; else the place of the byte after
 /// the kind with which no name, white space or comment begins, and one more where that byte is a
 /// slash that begins no comment. Takes no memory.
 pub fn check_head(text: &[u8]) -> Result<(), usize>
     ensures { MatchResult result (λ _. HasHead text.now) (Refused HasHead text.now) }
 {
-    let Some(created) = behind_front_word(b"create", text) else {
+    let Some(created) = after_front_word(b"create", text) else {
         return Err(agreement(text, b"create"));
     };
-    let Some((_, behind)) = kind_in(created) else {
+    let Some((_, after)) = kind_in(created) else {
         return Err(text.len());
     };
-    let rest = past_gaps(behind);
+    let rest = past_gaps(after);
     match name_place(rest) {
         None => Ok(()),
         Some(place) => Err(text.len() - rest.len() + place),

@@ -1,20 +1,20 @@
-// The item of a column: its name, its type and what is said behind it.
+// The item of a column: its name, its type and what is said after it.
 ghost use Rattle.std.specs.Prelude.{◌≡◌, ◌++◌, [], ◌∷◌, true, false, map, option_map, IfOk, MatchOption};
 ghost use Rattle.std.specs.List.{take_while};
 ghost use Rattle.std.specs.Str.{is_utf8};
 ghost use Rattle.std.specs.Char.{to_ascii_lowercase};
-ghost use Rattle.object_texts.specs.Shape.{behind_generated, column_of, has_generated, has_word, is_letter, type_at, type_named, undoubled};
-ghost use Rattle.object_texts.specs.Reading.{columns_in, columns_of, doubled_step, names_are, told_of, typed};
-ghost use Rattle.object_texts.specs.Token.{past_spaces, tokens};
+ghost use Rattle.object_forms.specs.Shape.{after_generated, column_of, has_generated, has_word, is_letter, type_at, type_named, name_value};
+ghost use Rattle.object_texts.specs.Reading.{columns_in, columns_of, doubled_step, names_are, item_of, type_of};
+ghost use Rattle.object_forms.specs.Token.{past_spaces, tokens};
 
 use crate::items::next_part;
-use crate::shape::{Column, ColumnList};
-use crate::token::{Token, behind_front_word, behind_word, next_token, past_spaces};
-use sql_literals::{Bytes, Name, OutOfMemory};
+use crate::token::{Token, after_front_word, after_word, next_token, past_spaces};
+use object_forms::{Column, ColumnList};
+use plain_data::{Bytes, Name, OutOfMemory};
 use std::alloc::Global;
 
 // A column as its item spells it: the name without backquotes around it, the letters of its type
-// word, and what stands behind that word.
+// word, and what stands after that word.
 #[derive(Clone, Copy)]
 pub(crate) struct Declared<'a> {
     pub(crate) name: &'a [u8],
@@ -41,9 +41,9 @@ fn letters(word: &[u8]) -> &[u8]
     word
 }
 
-// The letters of the type word at the front, and what stands behind that word.
+// The letters of the type word at the front, and what stands after that word.
 fn type_at(text: &[u8]) -> (&[u8], &[u8])
-    ensures { typed result.0.now result.1.now ≡ type_at (tokens text.now) }
+    ensures { type_of result.0.now result.1.now ≡ type_at (tokens text.now) }
 {
     match next_token(text) {
         Some((Token::Word(word), rest)) => (letters(word), rest),
@@ -53,12 +53,12 @@ fn type_at(text: &[u8]) -> (&[u8], &[u8])
 
 // The column of an item whose first byte past white space is a backquote.
 pub(crate) fn column_of(item: &[u8]) -> Option<Declared<'_>>
-    ensures { option_map told_of result ≡ column_of (tokens item.now) }
+    ensures { option_map item_of result ≡ column_of (tokens item.now) }
 {
-    let (Token::QuotedName(name), behind) = next_token(past_spaces(item))? else {
+    let (Token::QuotedName(name), after) = next_token(past_spaces(item))? else {
         return None;
     };
-    let (type_word, rest) = type_at(past_spaces(behind));
+    let (type_word, rest) = type_at(past_spaces(after));
     Some(Declared {
         name,
         type_word,
@@ -71,22 +71,22 @@ pub(crate) fn has_word(lower: &[u8], text: &[u8]) -> bool
     ensures { result ≡ has_word lower.now (tokens text.now) }
 {
     let mut rest = text;
-    'tokens: while let Some((token, behind)) = next_token(rest) {
+    'tokens: while let Some((token, after)) = next_token(rest) {
         if token.is_word(lower) {
             return true;
         }
-        rest = behind;
+        rest = after;
     }
     false
 }
 
-// What stands behind the words GENERATED ALWAYS AS at the front.
-fn behind_generated(text: &[u8]) -> Option<&[u8]>
-    ensures { option_map (λ rest. tokens rest.now) result ≡ behind_generated (tokens text.now) }
+// What stands after the words GENERATED ALWAYS AS at the front.
+fn after_generated(text: &[u8]) -> Option<&[u8]>
+    ensures { option_map (λ rest. tokens rest.now) result ≡ after_generated (tokens text.now) }
 {
-    behind_word(
+    after_word(
         b"as",
-        behind_word(b"always", behind_front_word(b"generated", text)?)?,
+        after_word(b"always", after_front_word(b"generated", text)?)?,
     )
 }
 
@@ -95,11 +95,11 @@ pub(crate) fn has_generated(text: &[u8]) -> bool
     ensures { result ≡ has_generated (tokens text.now) }
 {
     let mut rest = text;
-    'tokens: while let Some((_, behind)) = next_token(rest) {
-        if behind_generated(rest).is_some() {
+    'tokens: while let Some((_, after)) = next_token(rest) {
+        if after_generated(rest).is_some() {
             return true;
         }
-        rest = behind;
+        rest = after;
     }
     false
 }
@@ -114,7 +114,7 @@ fn doubled_step(name: &[u8]) -> usize
 // A name with each doubled backquote as one.
 #[tactic(auto, using(crate::proofs::Names::undoubled_step))]
 pub(crate) fn undoubled(alloc: Global, name: &[u8]) -> Result<Vec<u8>, OutOfMemory>
-    ensures { IfOk result (λ made. made.items ≡ undoubled name.now) }
+    ensures { IfOk result (λ made. made.items ≡ name_value name.now) }
 {
     let mut made = Vec::new(alloc);
     let mut at = 0;
@@ -152,7 +152,7 @@ fn text_of(bytes: &[u8]) -> Option<&str>
 
 // The name with each doubled backquote as one, where that is UTF-8.
 fn name_of(alloc: Global, spelled: &[u8]) -> Result<Option<Name>, OutOfMemory>
-    ensures { IfOk result (λ made. MatchOption made (is_utf8 (undoubled spelled.now) ≡ false) (λ name. (is_utf8 (undoubled spelled.now) ≡ true) × (name ≡ undoubled spelled.now))) }
+    ensures { IfOk result (λ made. MatchOption made (is_utf8 (name_value spelled.now) ≡ false) (λ name. (is_utf8 (name_value spelled.now) ≡ true) × (name ≡ name_value spelled.now))) }
 {
     let bytes = undoubled(alloc, spelled)?;
     match text_of(bytes.as_slice()) {
@@ -163,7 +163,7 @@ fn name_of(alloc: Global, spelled: &[u8]) -> Result<Option<Name>, OutOfMemory>
 
 // The column, where its name is UTF-8.
 fn column_made(alloc: Global, declared: &Declared<'_>) -> Result<Option<Column>, OutOfMemory>
-    ensures { IfOk result (λ made. MatchOption made (names_are (columns_of (Some (told_of declared.now))) ≡ false) (λ column. (names_are (columns_of (Some (told_of declared.now))) ≡ true) × (column ∷ [] ≡ columns_of (Some (told_of declared.now))))) }
+    ensures { IfOk result (λ made. MatchOption made (names_are (columns_of (Some (item_of declared.now))) ≡ false) (λ column. (names_are (columns_of (Some (item_of declared.now))) ≡ true) × (column ∷ [] ≡ columns_of (Some (item_of declared.now))))) }
 {
     let Some(name) = name_of(alloc, declared.name)? else {
         return Ok(None);
@@ -204,9 +204,9 @@ pub(crate) fn columns_in(alloc: Global, items: &[u8]) -> Result<Option<ColumnLis
         if !add_column(alloc, &mut made, item)? {
             return Ok(None);
         }
-        let Some(behind) = left else {
+        let Some(after) = left else {
             return Ok(Some(made));
         };
-        rest = behind;
+        rest = after;
     }
 }

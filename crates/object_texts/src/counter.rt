@@ -1,9 +1,9 @@
 // The counter of a table: the column with AUTO_INCREMENT, and the number that comes next.
 ghost use Rattle.std.specs.Prelude.{◌≡◌, ◌<◌, ◌+◌, ◌-◌, ◌*◌, ◌^◌, length, min, position, option_map, IfSome};
 ghost use Rattle.std.specs.List.{fold, take_while};
-ghost use Rattle.object_texts.specs.Shape.{column_of, counter, counter_at, counter_found, counter_in, is_auto, is_digit};
-ghost use Rattle.object_texts.specs.Reading.{columns_in, counter_told, is_auto_column, told_in};
-ghost use Rattle.object_texts.specs.Token.{tokens};
+ghost use Rattle.object_forms.specs.Shape.{column_of, counter, counter_at, counter_found, counter_in, is_auto, is_digit};
+ghost use Rattle.object_texts.specs.Reading.{columns_in, table_counter, is_auto_column, column_items};
+ghost use Rattle.object_forms.specs.Token.{tokens};
 
 use crate::column::{column_of, has_word};
 use crate::items::next_part;
@@ -16,7 +16,7 @@ use crate::token::{Token, next_token};
 pub struct Counter {
     /// The first column with AUTO_INCREMENT, counted from 0.
     pub column: u32,
-    /// The number behind the first `AUTO_INCREMENT=` behind the parenthesis, and 1 where there is none.
+    /// The number after the first `AUTO_INCREMENT=` after the parenthesis, and 1 where there is none.
     pub next: u128,
 }
 
@@ -62,7 +62,7 @@ fn counter_at(text: &[u8]) -> u128
     }
 }
 
-// The number behind `AUTO_INCREMENT=` at the front.
+// The number after `AUTO_INCREMENT=` at the front.
 fn counter_found(text: &[u8]) -> Option<u128>
     ensures { result ≡ counter_found (tokens text.now) }
 {
@@ -74,11 +74,11 @@ fn counter_in(text: &[u8]) -> u128
     ensures { result ≡ counter_in (tokens text.now) }
 {
     let mut rest = text;
-    'tokens: while let Some((_, behind)) = next_token(rest) {
+    'tokens: while let Some((_, after)) = next_token(rest) {
         if let Some(number) = counter_found(rest) {
             return number;
         }
-        rest = behind;
+        rest = after;
     }
     1
 }
@@ -96,7 +96,7 @@ fn is_auto_column(item: &[u8]) -> bool
 // The first column with AUTO_INCREMENT.
 #[tactic(auto, using(crate::proofs::Counters::places))]
 fn auto_place(items: &[u8]) -> Option<usize>
-    ensures place { result ≡ position is_auto (told_in items.now) }
+    ensures place { result ≡ position is_auto (column_items items.now) }
     ensures within { IfSome result (λ place. place < length (columns_in items.now)) }
 {
     let mut rest = items;
@@ -107,22 +107,22 @@ fn auto_place(items: &[u8]) -> Option<usize>
             return Some(place);
         }
         place += column_count_of(item);
-        let Some(behind) = left else {
+        let Some(after) = left else {
             return None;
         };
-        rest = behind;
+        rest = after;
     }
 }
 
 /// The counter of a table's text; `None` where the text has no shape or no column has
 /// AUTO_INCREMENT. Takes no memory. (MySQL 8.0 Reference Manual, 5.6.9, 15.1.20.)
 pub fn counter_of(text: &[u8]) -> Option<Counter>
-    ensures { option_map counter_told result ≡ counter text.now }
+    ensures { option_map table_counter result ≡ counter text.now }
 {
     let table = table_in(text)?;
     let place = auto_place(table.items)?;
     Some(Counter {
         column: place as u32,
-        next: counter_in(table.behind),
+        next: counter_in(table.after),
     })
 }

@@ -1,10 +1,10 @@
 // Parentheses, and the parts of what stands in them.
 ghost use Rattle.std.specs.Prelude.{◌≡◌, ◌==◌, ◌&&◌, ◌<◌, length, option_map, IfSome};
-ghost use Rattle.object_texts.specs.Shape.{enclosed_in, parts, up_to};
-ghost use Rattle.object_texts.specs.Reading.{enclosed, token_of, with_parts};
-ghost use Rattle.object_texts.specs.Token.{is_mark, tokens};
+ghost use Rattle.object_forms.specs.Shape.{enclosed_in, parts, up_to};
+ghost use Rattle.object_texts.specs.Reading.{enclosed_texts, token_of, with_parts};
+ghost use Rattle.object_forms.specs.Token.{is_mark, tokens};
 
-use crate::token::{Token, behind_mark, next_token, past_gaps};
+use crate::token::{Token, after_mark, next_token, past_gaps};
 
 // Whether a token is that mark outside parentheses.
 fn ends(token: Token<'_>, byte: u8, depth: usize) -> bool
@@ -13,32 +13,32 @@ fn ends(token: Token<'_>, byte: u8, depth: usize) -> bool
     token.is_mark(byte) && depth == 0
 }
 
-// The text up to the first such mark outside parentheses, and the text behind that mark.
+// The text up to the first such mark outside parentheses, and the text after that mark.
 fn up_to(byte: u8, text: &[u8]) -> Option<(&[u8], &[u8])>
-    ensures cut { option_map (λ cut. enclosed cut.0.now cut.1.now) result ≡ up_to byte 0 (tokens text.now) }
+    ensures cut { option_map (λ cut. enclosed_texts cut.0.now cut.1.now) result ≡ up_to byte 0 (tokens text.now) }
     ensures shorter { IfSome result (λ cut. length cut.1.now < length text.now) }
 {
     let mut depth = 0;
     let mut rest = text;
-    'tokens: while let Some((token, behind)) = next_token(rest) {
+    'tokens: while let Some((token, after)) = next_token(rest) {
         if ends(token, byte, depth) {
             let (front, _) = text.split_at(text.len() - rest.len());
-            return Some((front, behind));
+            return Some((front, after));
         }
-        depth = token.depth_behind(depth);
-        rest = behind;
+        depth = token.depth_after(depth);
+        rest = after;
     }
     None
 }
 
-// What stands in the parenthesis that opens past white space and comments, and what stands behind it.
+// What stands in the parenthesis that opens past white space and comments, and what stands after it.
 pub(crate) fn enclosed_in(text: &[u8]) -> Option<(&[u8], &[u8])>
-    ensures { option_map (λ found. enclosed found.0.now found.1.now) result ≡ enclosed_in (tokens text.now) }
+    ensures { option_map (λ found. enclosed_texts found.0.now found.1.now) result ≡ enclosed_in (tokens text.now) }
 {
-    up_to(b')', behind_mark(b'(', past_gaps(text))?)
+    up_to(b')', after_mark(b'(', past_gaps(text))?)
 }
 
-// The first part between commas outside parentheses, and what stands behind its comma.
+// The first part between commas outside parentheses, and what stands after its comma.
 #[tactic(auto, using(crate::proofs::Parts::part_by_part))]
 pub(crate) fn next_part(text: &[u8]) -> (&[u8], Option<&[u8]>)
     ensures parts { parts 0 (tokens text.now) ≡ with_parts (tokens result.0.now) (option_map (λ rest. rest.now) result.1) }

@@ -1,31 +1,31 @@
 // The item PRIMARY KEY, and the column that is the key.
 ghost use Rattle.std.specs.Prelude.{◌≡◌, ◌<◌, ◌^◌, length, position, option_map, option_and_then, IfOk, IfSome};
 ghost use Rattle.std.specs.List.{list_all};
-ghost use Rattle.object_texts.specs.Shape.{behind_length, behind_primary, is_digit, is_ended, is_integer, is_key, is_number, key_of, key_parts, only_name, part_name, parts, past_direction, primary, undoubled};
+ghost use Rattle.object_forms.specs.Shape.{after_length, after_primary, is_digit, is_ended, is_integer, is_key, is_number, key_of, key_parts, only_name, part_name, parts, past_direction, primary, name_value};
 ghost use Rattle.object_texts.specs.Reading.{token_of};
-ghost use Rattle.object_texts.specs.Token.{past_gaps, tokens};
+ghost use Rattle.object_forms.specs.Token.{past_gaps, tokens};
 
 use crate::column::undoubled;
 use crate::items::{enclosed_in, next_part};
-use crate::shape::Column;
 use crate::token::{
-    Token, behind_front_word, behind_mark, behind_word, next_token, past_gaps, past_spaces,
+    Token, after_front_word, after_mark, after_word, next_token, past_gaps, past_spaces,
 };
-use sql_literals::OutOfMemory;
+use object_forms::Column;
+use plain_data::OutOfMemory;
 use std::alloc::Global;
 
-// What stands behind the words PRIMARY KEY.
-fn behind_primary(item: &[u8]) -> Option<&[u8]>
-    ensures { option_map (λ rest. tokens rest.now) result ≡ behind_primary (tokens item.now) }
+// What stands after the words PRIMARY KEY.
+fn after_primary(item: &[u8]) -> Option<&[u8]>
+    ensures { option_map (λ rest. tokens rest.now) result ≡ after_primary (tokens item.now) }
 {
-    behind_word(b"key", behind_front_word(b"primary", past_spaces(item))?)
+    after_word(b"key", after_front_word(b"primary", past_spaces(item))?)
 }
 
 // What stands in the parenthesis of the item PRIMARY KEY (..).
 fn key_parts(item: &[u8]) -> Option<&[u8]>
     ensures { option_map (λ inner. parts 0 (tokens inner.now)) result ≡ key_parts (tokens item.now) }
 {
-    let (inner, _) = enclosed_in(behind_primary(item)?)?;
+    let (inner, _) = enclosed_in(after_primary(item)?)?;
     Some(inner)
 }
 
@@ -39,10 +39,10 @@ fn primary(items: &[u8]) -> Option<&[u8]>
         if let Some(inner) = key_parts(item) {
             return Some(inner);
         }
-        let Some(behind) = left else {
+        let Some(after) = left else {
             return None;
         };
-        rest = behind;
+        rest = after;
     }
 }
 
@@ -72,26 +72,26 @@ fn is_number(token: Token<'_>) -> bool
     }
 }
 
-// What stands behind a length in parentheses.
-fn behind_length(text: &[u8]) -> Option<&[u8]>
-    ensures { option_map (λ rest. tokens rest.now) result ≡ behind_length (tokens text.now) }
+// What stands after a length in parentheses.
+fn after_length(text: &[u8]) -> Option<&[u8]>
+    ensures { option_map (λ rest. tokens rest.now) result ≡ after_length (tokens text.now) }
 {
-    let inner = behind_mark(b'(', past_gaps(text))?;
+    let inner = after_mark(b'(', past_gaps(text))?;
     let (token, rest) = next_token(past_gaps(inner))?;
     if !is_number(token) {
         return None;
     }
-    behind_mark(b')', past_gaps(rest))
+    after_mark(b')', past_gaps(rest))
 }
 
 // The text without a direction in front.
 fn past_direction(text: &[u8]) -> &[u8]
     ensures { tokens result.now ≡ past_direction (tokens text.now) }
 {
-    if let Some(rest) = behind_word(b"asc", text) {
+    if let Some(rest) = after_word(b"asc", text) {
         return rest;
     }
-    behind_word(b"desc", text).unwrap_or(text)
+    after_word(b"desc", text).unwrap_or(text)
 }
 
 // Whether there is nothing but white space and comments.
@@ -103,19 +103,19 @@ fn is_ended(text: &[u8]) -> bool
 
 // The name of a part of a key, as it is spelled between backquotes.
 fn part_name(part: &[u8]) -> Option<&[u8]>
-    ensures { option_map (λ name. undoubled name.now) result ≡ part_name (tokens part.now) }
+    ensures { option_map (λ name. name_value name.now) result ≡ part_name (tokens part.now) }
 {
     let (Token::QuotedName(name), rest) = next_token(past_gaps(part))? else {
         return None;
     };
-    let rest = behind_length(rest).unwrap_or(rest);
+    let rest = after_length(rest).unwrap_or(rest);
     is_ended(past_direction(rest)).then_some(name)
 }
 
 // The name of the only part.
 #[tactic(auto, using(crate::proofs::Parts::part_by_part))]
 fn only_name(inner: &[u8]) -> Option<&[u8]>
-    ensures { option_map (λ name. undoubled name.now) result ≡ only_name (parts 0 (tokens inner.now)) }
+    ensures { option_map (λ name. name_value name.now) result ≡ only_name (parts 0 (tokens inner.now)) }
 {
     let (part, None) = next_part(inner) else {
         return None;
@@ -125,7 +125,7 @@ fn only_name(inner: &[u8]) -> Option<&[u8]>
 
 // The name of the only part of PRIMARY KEY.
 fn key_name(items: &[u8]) -> Option<&[u8]>
-    ensures { option_map (λ name. undoubled name.now) result ≡ option_and_then only_name (primary (parts 0 (tokens items.now))) }
+    ensures { option_map (λ name. name_value name.now) result ≡ option_and_then only_name (primary (parts 0 (tokens items.now))) }
 {
     only_name(primary(items)?)
 }

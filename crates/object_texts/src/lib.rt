@@ -14,5 +14,6 @@ mod token;
 
 pub use check::check_head;
 pub use counter::{Counter, counter_of};
-pub use head::{Head, Kind, head_of, trigger_table};
-pub use shape::{Column, ColumnList, Shape, shape_of};
+pub use head::{Head, head_of, trigger_table};
+pub use object_forms::{Column, ColumnList, Kind, Shape};
+pub use shape::shape_of;

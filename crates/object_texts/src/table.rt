@@ -1,29 +1,30 @@
-// A table's text: its items, its engine and what stands behind its parenthesis.
+// A table's text: its items, its engine and what stands after its parenthesis.
 ghost use Rattle.std.specs.Prelude.{◌≡◌, ◌≤◌, IfSome, length, option_map, option_and_then};
 ghost use Rattle.std.specs.Str.{is_utf8};
-ghost use Rattle.object_texts.specs.Head.{head};
-ghost use Rattle.object_texts.specs.Shape.{column_of, columns_are, engine_at, engine_in, items_behind, option_at, shape, undoubled, word_at};
-ghost use Rattle.object_texts.specs.Reading.{columns_in, columns_of, enclosed, names_are, table_of};
-ghost use Rattle.object_texts.specs.Token.{tokens};
+ghost use Rattle.object_forms.specs.Head.{head};
+ghost use Rattle.object_forms.specs.Shape.{column_of, columns_are, engine_at, engine_in, items_after, option_at, shape, name_value, word_at};
+ghost use Rattle.object_texts.specs.Reading.{columns_in, columns_of, enclosed_texts, names_are, table_of};
+ghost use Rattle.object_forms.specs.Token.{tokens};
 
 use crate::column::column_of;
-use crate::head::{Kind, head_in};
+use crate::head::head_in;
 use crate::items::{enclosed_in, next_part};
-use crate::token::{Token, behind_front_word, behind_mark, next_token};
+use crate::token::{Token, after_front_word, after_mark, next_token};
+use object_forms::Kind;
 
-// What stands in a table's parenthesis, its engine, and what stands behind the parenthesis.
+// What stands in a table's parenthesis, its engine, and what stands after the parenthesis.
 #[derive(Clone, Copy)]
 pub(crate) struct Table<'a> {
     pub(crate) items: &'a [u8],
     pub(crate) engine: &'a [u8],
-    pub(crate) behind: &'a [u8],
+    pub(crate) after: &'a [u8],
 }
 
-// What stands behind `WORD=` at the front.
+// What stands after `WORD=` at the front.
 pub(crate) fn option_at<'a>(lower: &[u8], text: &'a [u8]) -> Option<&'a [u8]>
     ensures { option_map (λ rest. tokens rest.now) result ≡ option_at lower.now (tokens text.now) }
 {
-    behind_mark(b'=', behind_front_word(lower, text)?)
+    after_mark(b'=', after_front_word(lower, text)?)
 }
 
 // The word at the front.
@@ -36,23 +37,23 @@ fn word_at(text: &[u8]) -> Option<&[u8]>
     Some(word)
 }
 
-// The word behind `ENGINE=` at the front.
+// The word after `ENGINE=` at the front.
 fn engine_at(text: &[u8]) -> Option<&[u8]>
     ensures { option_map (λ word. word.now) result ≡ engine_at (tokens text.now) }
 {
     word_at(option_at(b"engine", text)?)
 }
 
-// The word behind the first `ENGINE=` with one.
+// The word after the first `ENGINE=` with one.
 fn engine_in(text: &[u8]) -> Option<&[u8]>
     ensures { option_map (λ word. word.now) result ≡ engine_in (tokens text.now) }
 {
     let mut rest = text;
-    'tokens: while let Some((_, behind)) = next_token(rest) {
+    'tokens: while let Some((_, after)) = next_token(rest) {
         if let Some(engine) = engine_at(rest) {
             return Some(engine);
         }
-        rest = behind;
+        rest = after;
     }
     None
 }
@@ -60,7 +61,7 @@ fn engine_in(text: &[u8]) -> Option<&[u8]>
 // Whether a name's text is UTF-8 once each doubled backquote is one.
 #[tactic(auto, using(crate::proofs::Utf8::names))]
 fn is_text(name: &[u8]) -> bool
-    ensures { result ≡ is_utf8 (undoubled name.now) }
+    ensures { result ≡ is_utf8 (name_value name.now) }
 {
     match std::str::from_utf8(name) {
         Ok(_) => true,
@@ -89,10 +90,10 @@ fn are_named(items: &[u8]) -> bool
         if !is_named(item) {
             return false;
         }
-        let Some(behind) = left else {
+        let Some(after) = left else {
             return true;
         };
-        rest = behind;
+        rest = after;
     }
 }
 
@@ -115,10 +116,10 @@ fn column_count(items: &[u8]) -> usize
     'items: loop {
         let (item, left) = next_part(rest);
         count += column_count_of(item);
-        let Some(behind) = left else {
+        let Some(after) = left else {
             return count;
         };
-        rest = behind;
+        rest = after;
     }
 }
 
@@ -130,9 +131,9 @@ fn columns_are(items: &[u8]) -> bool
     1 <= count && count <= 65535 && are_named(items)
 }
 
-// What stands in a table's parenthesis, and what stands behind that.
+// What stands in a table's parenthesis, and what stands after that.
 fn items_in(text: &[u8]) -> Option<(&[u8], &[u8])>
-    ensures { option_map (λ found. enclosed found.0.now found.1.now) result ≡ option_and_then items_behind (head text.now) }
+    ensures { option_map (λ found. enclosed_texts found.0.now found.1.now) result ≡ option_and_then items_after (head text.now) }
 {
     let (head, rest) = head_in(text)?;
     if head.kind != Kind::Table {
@@ -146,14 +147,14 @@ pub(crate) fn table_in(text: &[u8]) -> Option<Table<'_>>
     ensures shape { option_map table_of result ≡ shape text.now }
     ensures few { IfSome result (λ table. length (columns_in table.items.now) ≤ 65535) }
 {
-    let (items, behind) = items_in(text)?;
+    let (items, after) = items_in(text)?;
     if !columns_are(items) {
         return None;
     }
-    let engine = engine_in(behind)?;
+    let engine = engine_in(after)?;
     Some(Table {
         items,
         engine,
-        behind,
+        after,
     })
 }

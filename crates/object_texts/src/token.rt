@@ -3,9 +3,9 @@ ghost use Rattle.std.specs.Prelude.{◌≡◌, ◌≢◌, ◌<◌, ◌≤◌, �
 ghost use Rattle.std.specs.Char.{to_ascii_lowercase};
 ghost use Rattle.std.specs.List.{prefix_len};
 ghost use Rattle.std.specs.Str.{bytes_eq};
-ghost use Rattle.object_texts.specs.Token.{closing, comment_end, ends_comment, first_token, is_gap, is_mark, is_quote, is_white, is_word, is_word_byte, past_gaps, past_spaces, quoted_lexeme, slash_lexeme, tokens};
-ghost use Rattle.object_texts.specs.Head.{behind, behind_word};
-ghost use Rattle.object_texts.specs.Shape.{depth_behind};
+ghost use Rattle.object_forms.specs.Token.{closing, comment_end, ends_comment, first_token, is_gap, is_mark, is_quote, is_white, is_word, is_word_byte, past_gaps, past_spaces, quoted_lexeme, slash_lexeme, tokens};
+ghost use Rattle.object_forms.specs.Head.{after, after_word};
+ghost use Rattle.object_forms.specs.Shape.{depth_after};
 ghost use Rattle.object_texts.specs.Left.{IsLeft};
 ghost use Rattle.object_texts.specs.Reading.{closes, lexeme_of, quoted_step, token_of};
 
@@ -80,7 +80,7 @@ fn closes(quote: u8, text: &[u8]) -> bool
     }
 }
 
-// How many bytes there are up to the closing quote and with it, behind an opening one.
+// How many bytes there are up to the closing quote and with it, after an opening one.
 #[tactic(auto, using(crate::proofs::Quotes::quotes))]
 fn closing(quote: u8, text: &[u8]) -> Option<usize>
     ensures exact { result ≡ closing quote text.now }
@@ -104,7 +104,7 @@ fn ends_comment(text: &[u8], at: usize) -> bool
     text[at] == b'*' && text[at + 1] == b'/'
 }
 
-// How many bytes there are up to the end of a comment and with it, behind its beginning.
+// How many bytes there are up to the end of a comment and with it, after its beginning.
 #[tactic(auto, using(crate::proofs::Quotes::comments))]
 fn comment_end(text: &[u8]) -> Option<usize>
     ensures exact { result ≡ comment_end text.now }
@@ -120,7 +120,7 @@ fn comment_end(text: &[u8]) -> Option<usize>
     None
 }
 
-// What begins with a quote, behind which the text stands.
+// What begins with a quote, after which the text stands.
 fn quoted(quote: u8, text: &[u8]) -> Lexeme<'_>
     ensures { lexeme_of result ≡ quoted_lexeme quote text.now (closing quote text.now) }
 {
@@ -140,7 +140,7 @@ fn quoted(quote: u8, text: &[u8]) -> Lexeme<'_>
     }
 }
 
-// What begins with a slash, behind which the text stands.
+// What begins with a slash, after which the text stands.
 fn slashed(text: &[u8]) -> Lexeme<'_>
     ensures { lexeme_of result ≡ slash_lexeme text.now }
 {
@@ -166,7 +166,7 @@ fn slashed(text: &[u8]) -> Lexeme<'_>
 fn first_token(text: &[u8]) -> Option<Lexeme<'_>>
     ensures { MatchOption result (text.now ≡ []) (λ found. (text.now ≢ []) × (lexeme_of found ≡ first_token text.now)) }
 {
-    let (byte, behind) = text.split_first()?;
+    let (byte, after) = text.split_first()?;
     let byte = *byte;
     if is_word_byte(byte) {
         let size = word_length(text);
@@ -176,7 +176,7 @@ fn first_token(text: &[u8]) -> Option<Lexeme<'_>>
         });
     }
     if is_quote(byte) {
-        return Some(quoted(byte, behind));
+        return Some(quoted(byte, after));
     }
     if is_white(byte) {
         return Some(Lexeme {
@@ -185,7 +185,7 @@ fn first_token(text: &[u8]) -> Option<Lexeme<'_>>
         });
     }
     if byte == b'/' {
-        return Some(slashed(behind));
+        return Some(slashed(after));
     }
     Some(Lexeme {
         size: 1,
@@ -193,16 +193,16 @@ fn first_token(text: &[u8]) -> Option<Lexeme<'_>>
     })
 }
 
-// The first token of a text, and what stands behind it.
+// The first token of a text, and what stands after it.
 #[tactic(auto, using(crate::proofs::Tokens::steps))]
 pub(crate) fn next_token(text: &[u8]) -> Option<(Token<'_>, &[u8])>
     ensures first { MatchOption result (tokens text.now ≡ []) (λ found. tokens text.now ≡ token_of found.0 ∷ tokens found.1.now) }
     ensures shorter { IfSome result (λ found. length found.1.now < length text.now) }
-    ensures behind { IfSome result (λ found. found.1.now ≡ drop (first_token text.now).size text.now) }
+    ensures after { IfSome result (λ found. found.1.now ≡ drop (first_token text.now).size text.now) }
 {
     let first = first_token(text)?;
-    let (_, behind) = text.split_at(first.size);
-    Some((first.token, behind))
+    let (_, after) = text.split_at(first.size);
+    Some((first.token, after))
 }
 
 // Whether the bytes are that word, which is given in lower case, in any case.
@@ -241,9 +241,9 @@ impl Token<'_> {
     }
 
     // How deep in parentheses what follows the token stands.
-    pub(crate) fn depth_behind(self, depth: usize) -> usize
+    pub(crate) fn depth_after(self, depth: usize) -> usize
         requires { depth < 2 ^ 63 }
-        ensures { result ≡ depth_behind (token_of self.entry) depth }
+        ensures { result ≡ depth_after (token_of self.entry) depth }
     {
         if self.is_mark(b'(') {
             depth + 1
@@ -262,47 +262,47 @@ impl Token<'_> {
     }
 }
 
-// What stands behind white space and comments.
+// What stands after white space and comments.
 #[tactic(auto, using(crate::proofs::Cuts::left))]
 pub(crate) fn past_gaps(text: &[u8]) -> &[u8]
     ensures past { tokens result.now ≡ past_gaps (tokens text.now) }
     ensures left { IsLeft text.now result.now }
 {
     let mut rest = text;
-    'gaps: while let Some((token, behind)) = next_token(rest) {
+    'gaps: while let Some((token, after)) = next_token(rest) {
         if !token.is_gap() {
             return rest;
         }
-        rest = behind;
+        rest = after;
     }
     rest
 }
 
-// What stands behind white space.
+// What stands after white space.
 pub(crate) fn past_spaces(text: &[u8]) -> &[u8]
     ensures { tokens result.now ≡ past_spaces (tokens text.now) }
 {
     let mut rest = text;
-    'spaces: while let Some((token, behind)) = next_token(rest) {
+    'spaces: while let Some((token, after)) = next_token(rest) {
         let Token::White = token else {
             return rest;
         };
-        rest = behind;
+        rest = after;
     }
     rest
 }
 
-// What stands behind a token at the front that is this byte.
-pub(crate) fn behind_mark(byte: u8, text: &[u8]) -> Option<&[u8]>
-    ensures { option_map (λ rest. tokens rest.now) result ≡ behind (is_mark byte) (tokens text.now) }
+// What stands after a token at the front that is this byte.
+pub(crate) fn after_mark(byte: u8, text: &[u8]) -> Option<&[u8]>
+    ensures { option_map (λ rest. tokens rest.now) result ≡ after (is_mark byte) (tokens text.now) }
 {
     let (token, rest) = next_token(text)?;
     token.is_mark(byte).then_some(rest)
 }
 
-// What stands behind a token at the front that is this word.
-pub(crate) fn behind_front_word<'a>(lower: &[u8], text: &'a [u8]) -> Option<&'a [u8]>
-    ensures behind { option_map (λ rest. tokens rest.now) result ≡ behind (is_word lower.now) (tokens text.now) }
+// What stands after a token at the front that is this word.
+pub(crate) fn after_front_word<'a>(lower: &[u8], text: &'a [u8]) -> Option<&'a [u8]>
+    ensures after { option_map (λ rest. tokens rest.now) result ≡ after (is_word lower.now) (tokens text.now) }
     ensures left { IfSome result (λ rest. rest.now ≡ drop (first_token text.now).size text.now) }
 {
     let (token, rest) = next_token(text)?;
@@ -310,8 +310,8 @@ pub(crate) fn behind_front_word<'a>(lower: &[u8], text: &'a [u8]) -> Option<&'a 
 }
 
 // The same past white space and comments.
-pub(crate) fn behind_word<'a>(lower: &[u8], text: &'a [u8]) -> Option<&'a [u8]>
-    ensures { option_map (λ rest. tokens rest.now) result ≡ behind_word lower.now (tokens text.now) }
+pub(crate) fn after_word<'a>(lower: &[u8], text: &'a [u8]) -> Option<&'a [u8]>
+    ensures { option_map (λ rest. tokens rest.now) result ≡ after_word lower.now (tokens text.now) }
 {
-    behind_front_word(lower, past_gaps(text))
+    after_front_word(lower, past_gaps(text))
 }

@@ -2,8 +2,9 @@
 
 use crate::shelf_cases::ShelfCases;
 use crate::words::{bytes_of, first_word, numbers_of, or_nothing, said, spelled};
-use link_traits::{Folder, FolderFailed, ListFault, MemoryFolder};
-use sql_literals::{NameList, NumberList, OutOfMemory};
+use link_traits::{Folder, FolderFailed, ListFault};
+use memory_outside::MemoryFolder;
+use plain_data::{NameList, NumberList, OutOfMemory};
 use std::alloc::Global;
 use std::marker::Model;
 
@@ -17,7 +18,7 @@ pub struct FolderCases {
 
 impl Model for FolderCases {
     ghost use Rattle.std.specs.Prelude.{◌≡◌, is_some, if◌then◌else◌};
-    ghost use Rattle.link_traits.specs.Memory.{FolderState};
+    ghost use Rattle.memory_outside.specs.Memory.{FolderState};
 
     ghost Value = { FolderState };
 

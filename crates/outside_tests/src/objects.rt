@@ -4,7 +4,7 @@ use crate::folder_cases::FolderCases;
 use crate::report_cases::{ClockCases, SinkCases};
 use crate::site_cases::SiteCases;
 use crate::words::{first_word, said};
-use sql_literals::OutOfMemory;
+use plain_data::OutOfMemory;
 use std::alloc::Global;
 
 /// One object of each kind, on which the cases are tried one after the other.

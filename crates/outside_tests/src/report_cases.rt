@@ -2,8 +2,9 @@
 ghost use Rattle.std.specs.Prelude.{◌<◌, All, IfOk};
 
 use crate::words::{bytes_of, first_word, numbers_of, said, said_of, spelled};
-use link_traits::{Clock, ClockFailed, ListClock, MemorySink, Sink};
-use sql_literals::{NumberList, OutOfMemory};
+use link_traits::{Clock, ClockFailed, Sink};
+use memory_outside::{ListClock, MemorySink};
+use plain_data::{NumberList, OutOfMemory};
 use std::alloc::Global;
 
 /// A sink.

@@ -1,8 +1,9 @@
 // Cases of a shelf in memory.
 
 use crate::words::{bytes_of, said, said_of};
-use link_traits::{MemoryShelf, Shelf};
-use sql_literals::OutOfMemory;
+use link_traits::Shelf;
+use memory_outside::MemoryShelf;
+use plain_data::OutOfMemory;
 use std::alloc::Global;
 use std::marker::Model;
 
@@ -16,7 +17,7 @@ pub struct ShelfCases {
 
 impl Model for ShelfCases {
     ghost use Rattle.std.specs.Prelude.{◌≡◌, is_some};
-    ghost use Rattle.link_traits.specs.Memory.{ShelfState};
+    ghost use Rattle.memory_outside.specs.Memory.{ShelfState};
 
     ghost Value = { ShelfState };
 

@@ -1,11 +1,10 @@
 // Cases of a site in memory, and of the link of it that is out.
 
 use crate::words::{bytes_of, first_word, numbers_of, or_nothing, said, said_of, spelled};
-use link_traits::{
-    Conversation, ConversationList, Link, LinkFailed, MessageList, ReplyLink, ReplySite, Site,
-};
+use link_traits::{Link, LinkFailed, Site};
+use memory_outside::{Conversation, ConversationList, MessageList, ReplyLink, ReplySite};
 use percent_encoding::{CONTROLS, percent_encode};
-use sql_literals::{Bytes, NumberList, OutOfMemory};
+use plain_data::{Bytes, NumberList, OutOfMemory};
 use std::alloc::Global;
 use std::marker::Model;
 
@@ -19,7 +18,7 @@ pub struct SiteCases {
 
 impl Model for SiteCases {
     ghost use Rattle.std.specs.Prelude.{◌≡◌, is_some, if◌then◌else◌};
-    ghost use Rattle.link_traits.specs.Replies.{SiteState};
+    ghost use Rattle.memory_outside.specs.Replies.{SiteState};
 
     ghost Value = { SiteState };
 

@@ -6,8 +6,8 @@ use crate::fault::CaseFault;
 use crate::site::{folder_of, site_of, words_of};
 use crate::words::{bytes_of, number};
 use dumper_cli::mydumper;
-use link_traits::{ListClock, MemoryFolder, MemorySink, ReplySite};
-use sql_literals::{Bytes, NameList, NumberList};
+use memory_outside::{ListClock, MemoryFolder, MemorySink, ReplySite};
+use plain_data::{Bytes, NameList, NumberList};
 use std::alloc::Global;
 use std::thread::Threads;
 
@@ -71,11 +71,11 @@ impl Ended {
         message_at(alloc, self.site.sent(0).as_slice(), number)
     }
 
-    // The data file behind what it begins with.
+    // The data file after what it begins with.
     fn file(&self, alloc: Global, case: &Case<'_>) -> Result<Vec<u8>, CaseFault> {
         let preamble = bytes_of(alloc, case.preamble)?;
         match self.folder.file(case.file) {
-            Some(file) => behind(alloc, &preamble, file),
+            Some(file) => after(alloc, &preamble, file),
             None => bytes_of(alloc, "no file"),
         }
     }
@@ -88,7 +88,7 @@ fn message_at(alloc: Global, messages: &[Bytes], number: usize) -> Result<Vec<u8
     }
 }
 
-fn behind(alloc: Global, preamble: &[u8], file: &[u8]) -> Result<Vec<u8>, CaseFault> {
+fn after(alloc: Global, preamble: &[u8], file: &[u8]) -> Result<Vec<u8>, CaseFault> {
     match file.strip_prefix(preamble) {
         Some(rest) => copied(alloc, rest),
         None => bytes_of(alloc, "another beginning"),

@@ -4,9 +4,9 @@ ghost use Rattle.std.specs.Prelude.{◌≡◌, IfOk};
 use crate::case::Case;
 use crate::fault::CaseFault;
 use crate::words::{byte, bytes_of, number};
-use link_traits::{Conversation, ConversationList, MemoryFolder, ReplySite};
+use memory_outside::{Conversation, ConversationList, MemoryFolder, ReplySite};
 use my_packets::frame_into;
-use sql_literals::{Bytes, Name, NameList, NumberList};
+use plain_data::{Bytes, Name, NameList, NumberList};
 use std::alloc::Global;
 
 const OK: &str = "%00%00%00%02%00%00%00";

@@ -4,9 +4,9 @@ use Rattle.std.specs.Option.{option_map_or}
 use Rattle.std.proofs.lemmas.Bool.{cases_lt}
 use Rattle.std.proofs.lemmas.Bool.Decides.{nat_tests}
 use Rattle.std.proofs.lemmas.List.{take-append-drop, take-append-le, drop-append-le, length-take-le, take_all}
-use Rattle.my_packets.specs.Lenenc.{lenenc_of}
-use Rattle.result_rows.specs.Reply.{reply_of, behind_number, refusal_of, refusal_of_code, is_ok_packet}
-use Rattle.result_rows.specs.Definition.{column_count}
+use Rattle.wire_forms.specs.Lenenc.{lenenc_of}
+use Rattle.wire_forms.specs.Reply.{reply_of, after_number, refusal_of, refusal_of_code, is_ok_packet}
+use Rattle.wire_forms.specs.Definition.{column_count}
 
 -- a number of at most nine bytes is read in as many
 lenenc_append : (bytes rest : List ℕ) → 9 ≤ length bytes → lenenc_of (bytes ++ rest) ≡ lenenc_of bytes
@@ -24,7 +24,7 @@ lenenc_append (a ∷ b ∷ c ∷ d ∷ e ∷ f ∷ g ∷ h ∷ i ∷ more) rest 
 lenenc_short : (bytes : List ℕ) (number : ℕ × ℕ) → lenenc_of bytes ≡ Some number → number.1 ≤ 9
 lenenc_short bytes number found = grind (arith, nat_tests)
 
--- whether four bytes are behind a number
+-- whether four bytes are after a number
 abbrev four_left : Option (List ℕ) → Bool
 four_left found = option_map_or (λ (rest : List ℕ). nat_le 4 (length rest)) found false
 
@@ -36,10 +36,10 @@ both_left (Some number) bytes rest short long =
     let more = length-drop number.1 (bytes ++ rest) in
     grind (arith, nat_tests, length-append {A = ℕ})
 
-second_number : (bytes rest : List ℕ) → 13 ≤ length bytes → four_left (behind_number (bytes ++ rest)) ≡ four_left (behind_number bytes)
+second_number : (bytes rest : List ℕ) → 13 ≤ length bytes → four_left (after_number (bytes ++ rest)) ≡ four_left (after_number bytes)
 second_number bytes rest long = rw (lenenc_append bytes rest (omega arith)) (both_left (lenenc_of bytes) bytes rest (lenenc_short bytes) long)
 
-first_number : (found : Option (ℕ × ℕ)) (bytes rest : List ℕ) → ((number : ℕ × ℕ) → found ≡ Some number → number.1 ≤ 9) → 22 ≤ length bytes → four_left (option_and_then behind_number (option_map (λ (number : ℕ × ℕ). drop number.1 (bytes ++ rest)) found)) ≡ four_left (option_and_then behind_number (option_map (λ (number : ℕ × ℕ). drop number.1 bytes) found))
+first_number : (found : Option (ℕ × ℕ)) (bytes rest : List ℕ) → ((number : ℕ × ℕ) → found ≡ Some number → number.1 ≤ 9) → 22 ≤ length bytes → four_left (option_and_then after_number (option_map (λ (number : ℕ × ℕ). drop number.1 (bytes ++ rest)) found)) ≡ four_left (option_and_then after_number (option_map (λ (number : ℕ × ℕ). drop number.1 bytes) found))
 first_number None bytes rest short long = refl
 first_number (Some number) bytes rest short long =
     let bound : number.1 ≤ 9 = short number refl in
@@ -51,7 +51,7 @@ ok_append byte bytes rest long = rw (lenenc_append bytes rest (omega arith)) (ap
 said_append : (code byte : ℕ) (bytes rest : List ℕ) → 517 ≤ length bytes → refusal_of_code code (byte ∷ bytes ++ rest) ≡ refusal_of_code code (byte ∷ bytes)
 said_append code byte bytes rest long =
     let state = take-append-le 5 bytes rest (omega arith) in
-    let behind = drop-append-le 5 bytes rest (omega arith) in
+    let after = drop-append-le 5 bytes rest (omega arith) in
     let text = take-append-le 512 (drop 5 bytes) rest (let l = length-drop 5 bytes in omega arith) in
     let all = take-append-le 512 (byte ∷ bytes) rest (omega arith) in
     let there : 5 ≤ length (bytes ++ rest) = let l = length-append bytes rest in omega arith in

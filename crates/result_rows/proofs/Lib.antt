@@ -1,4 +1,3 @@
 pub mod Fronts
 pub mod ResultSets
-pub mod Texts
 pub mod Walks

@@ -2,13 +2,13 @@
 use Rattle.std.proofs.Common.{◌≡◌, ℕ, zero, suc, ◌+◌, ◌-◌, ◌==◌, ◌&&◌, nat_lt, nat_le, not, Bool, true, false, IsTrue, if◌then◌else◌, List, [], ◌∷◌, ◌++◌, length, map, replicate, Option, Some, None, refl, sym, ◌∙◌, ap, append_assoc, option_map, arith}
 use Rattle.std.proofs.lemmas.Bool.{ne_eqb}
 use Rattle.std.proofs.lemmas.Grind.{replicate_next}
-use Rattle.result_rows.specs.Row.{Cell, cells_of}
-use Rattle.result_rows.specs.Definition.{is_definition, column_count}
-use Rattle.result_rows.specs.Reply.{is_ok_packet, is_eof_packet, reply_of, refusal_of}
-use Rattle.result_rows.specs.Reading.{Reading, Further, definition, row, end, idle, definition_if, end_if, refused_if, row_if, row_of, counted, further_of, after}
-use Rattle.result_rows.specs.ResultSet.{AreDefinitions, AreRows, IsRow, IsResultSet, IsTaken, taken}
-use Rattle.result_rows.specs.declared.refusal.Refusal.{Refusal}
-use Rattle.result_rows.specs.declared.reader.Reply.TheVariants.{Done, Refused, Columns}
+use Rattle.wire_forms.specs.Row.{Cell, cells_of}
+use Rattle.wire_forms.specs.Definition.{is_definition, column_count}
+use Rattle.wire_forms.specs.Reply.{is_ok_packet, is_eof_packet, reply_of, refusal_of}
+use Rattle.wire_forms.specs.Reading.{Reading, Further, definition, row, end, idle, definition_if, end_if, refused_if, row_if, row_of, columns_counted, further_of, reading_after}
+use Rattle.wire_forms.specs.ResultSet.{AreDefinitions, AreRows, IsRow, IsResultSet, IsTaken, turns_of}
+use Rattle.wire_forms.specs.declared.refusal.Refusal.{Refusal}
+use Rattle.wire_forms.specs.declared.reply.Reply.TheVariants.{Done, Refused, Columns}
 
 -- ---- a message in a row's place
 
@@ -80,8 +80,8 @@ at_rows columns = record { columns = columns; awaited = 0 }
 
 -- ---- one message
 
-taken-step : (reading : Reading) (message : List ℕ) (messages : List (List ℕ)) (turn : Further) → further_of reading message ≡ turn → taken reading (message ∷ messages) ≡ turn ∷ taken (after reading turn) messages
-taken-step reading message messages turn e = ap (λ (found : Further). found ∷ taken (after reading found) messages) e
+taken-step : (reading : Reading) (message : List ℕ) (messages : List (List ℕ)) (turn : Further) → further_of reading message ≡ turn → turns_of reading (message ∷ messages) ≡ turn ∷ turns_of (reading_after reading turn) messages
+taken-step reading message messages turn e = ap (λ (found : Further). found ∷ turns_of (reading_after reading found) messages) e
 
 -- the message of the first turn, and the others
 record Stepped (reading : Reading) (turn : Further) (turns : List Further) (messages : List (List ℕ)) : Type 0 where
@@ -89,29 +89,29 @@ record Stepped (reading : Reading) (turn : Further) (turns : List Further) (mess
   others : List (List ℕ)
   messages_are : messages ≡ message ∷ others
   turn_is : further_of reading message ≡ turn
-  turns_are : taken (after reading turn) others ≡ turns
+  turns_are : turns_of (reading_after reading turn) others ≡ turns
 
-taken-step_back : (reading : Reading) (messages : List (List ℕ)) (turn : Further) (turns : List Further) → taken reading messages ≡ turn ∷ turns → Stepped reading turn turns messages
+taken-step_back : (reading : Reading) (messages : List (List ℕ)) (turn : Further) (turns : List Further) → turns_of reading messages ≡ turn ∷ turns → Stepped reading turn turns messages
 taken-step_back reading [] turn turns e = cc
 taken-step_back reading (message ∷ messages) turn turns e =
     let first : further_of reading message ≡ turn = cc in
-    let others : taken (after reading (further_of reading message)) messages ≡ turns = cc in
-    record { message = message; others = messages; messages_are = refl; turn_is = first; turns_are = ap (λ (found : Further). taken (after reading found) messages) (sym first) ∙ others }
+    let others : turns_of (reading_after reading (further_of reading message)) messages ≡ turns = cc in
+    record { message = message; others = messages; messages_are = refl; turn_is = first; turns_are = ap (λ (found : Further). turns_of (reading_after reading found) messages) (sym first) ∙ others }
 
-taken-none : (reading : Reading) (messages : List (List ℕ)) → taken reading messages ≡ [] → messages ≡ []
+taken-none : (reading : Reading) (messages : List (List ℕ)) → turns_of reading messages ≡ [] → messages ≡ []
 taken-none reading [] e = refl
 taken-none reading (message ∷ messages) e = cc
 
 -- ---- the rows and the end
 
-rows-forward : (columns : ℕ) (messages : List (List ℕ)) (rows : List (List Cell)) (last : List ℕ) → AreRows columns messages rows → IsTrue (is_eof_packet last) → taken (at_rows columns) (messages ++ last ∷ []) ≡ map row rows ++ end ∷ []
+rows-forward : (columns : ℕ) (messages : List (List ℕ)) (rows : List (List Cell)) (last : List ℕ) → AreRows columns messages rows → IsTrue (is_eof_packet last) → turns_of (at_rows columns) (messages ++ last ∷ []) ≡ map row rows ++ end ∷ []
 rows-forward columns [] [] last are is = taken-step (at_rows columns) last [] end (row_of-end columns last is)
 rows-forward columns [] (cells ∷ rows) last are is = absurd are
 rows-forward columns (message ∷ messages) [] last are is = absurd are
 rows-forward columns (message ∷ messages) (cells ∷ rows) last are is =
     taken-step (at_rows columns) message (messages ++ last ∷ []) (row cells) (row_of-row columns message cells are.0) ∙ ap (λ (turns : List Further). row cells ∷ turns) (rows-forward columns messages rows last are.1 is)
 
--- the messages of rows and the EOF behind them
+-- the messages of rows and the EOF after them
 record RowsAndEnd (columns : ℕ) (rows : List (List Cell)) (messages : List (List ℕ)) : Type 0 where
   row_messages : List (List ℕ)
   last : List ℕ
@@ -119,7 +119,7 @@ record RowsAndEnd (columns : ℕ) (rows : List (List Cell)) (messages : List (Li
   rows_are : AreRows columns row_messages rows
   last_is : IsTrue (is_eof_packet last)
 
-rows-back : (columns : ℕ) (rows : List (List Cell)) (messages : List (List ℕ)) → taken (at_rows columns) messages ≡ map row rows ++ end ∷ [] → RowsAndEnd columns rows messages
+rows-back : (columns : ℕ) (rows : List (List Cell)) (messages : List (List ℕ)) → turns_of (at_rows columns) messages ≡ map row rows ++ end ∷ [] → RowsAndEnd columns rows messages
 rows-back columns [] messages e =
     let step : Stepped (at_rows columns) end [] messages = taken-step_back (at_rows columns) messages end [] e in
     record {
@@ -140,13 +140,13 @@ rows-back columns (cells ∷ rows) messages e =
       last_is = found.last_is;
     }
 
--- ---- the definitions and the EOF behind them
+-- ---- the definitions and the EOF after them
 
--- so many definitions and the EOF behind them are awaited
+-- so many definitions and the EOF after them are awaited
 abbrev before_rows : ℕ → ℕ → Reading
 before_rows columns definitions = record { columns = columns; awaited = suc definitions }
 
-after-definition : (columns awaited : ℕ) → after (record { columns = columns; awaited = suc awaited }) definition ≡ record { columns = columns; awaited = awaited }
+after-definition : (columns awaited : ℕ) → reading_after (record { columns = columns; awaited = suc awaited }) definition ≡ record { columns = columns; awaited = awaited }
 after-definition columns awaited = let e : suc awaited - 1 ≡ awaited = omega arith in ap (λ (n : ℕ). record { columns = columns; awaited = n }) e
 
 definition-if_back : (b : Bool) → definition_if b ≡ definition → IsTrue b
@@ -161,11 +161,11 @@ definition-turn columns n message =
     rw (p, q)
 
 -- the step over a message before the rows
-before-step : (columns awaited : ℕ) (message : List ℕ) (messages : List (List ℕ)) → further_of (record { columns = columns; awaited = suc awaited }) message ≡ definition → taken (record { columns = columns; awaited = suc awaited }) (message ∷ messages) ≡ definition ∷ taken (record { columns = columns; awaited = awaited }) messages
+before-step : (columns awaited : ℕ) (message : List ℕ) (messages : List (List ℕ)) → further_of (record { columns = columns; awaited = suc awaited }) message ≡ definition → turns_of (record { columns = columns; awaited = suc awaited }) (message ∷ messages) ≡ definition ∷ turns_of (record { columns = columns; awaited = awaited }) messages
 before-step columns awaited message messages e =
-    taken-step (record { columns = columns; awaited = suc awaited }) message messages definition e ∙ ap (λ (reading : Reading). definition ∷ taken reading messages) (after-definition columns awaited)
+    taken-step (record { columns = columns; awaited = suc awaited }) message messages definition e ∙ ap (λ (reading : Reading). definition ∷ turns_of reading messages) (after-definition columns awaited)
 
-definitions-forward : (columns n : ℕ) (definitions rest : List (List ℕ)) → AreDefinitions definitions → length definitions ≡ n → taken (before_rows columns n) (definitions ++ rest) ≡ replicate n definition ++ taken (before_rows columns 0) rest
+definitions-forward : (columns n : ℕ) (definitions rest : List (List ℕ)) → AreDefinitions definitions → length definitions ≡ n → turns_of (before_rows columns n) (definitions ++ rest) ≡ replicate n definition ++ turns_of (before_rows columns 0) rest
 definitions-forward columns zero [] rest are as_many = refl
 definitions-forward columns (suc n) [] rest are as_many = absurd (omega arith)
 definitions-forward columns zero (message ∷ messages) rest are as_many = absurd (omega arith)
@@ -180,13 +180,13 @@ record Definitions (columns n : ℕ) (turns : List Further) (messages : List (Li
   messages_are : messages ≡ definitions ++ others
   definitions_are : AreDefinitions definitions
   as_many : length definitions ≡ n
-  turns_are : taken (before_rows columns 0) others ≡ turns
+  turns_are : turns_of (before_rows columns 0) others ≡ turns
 
-definitions-back : (columns n : ℕ) (turns : List Further) (messages : List (List ℕ)) → taken (before_rows columns n) messages ≡ replicate n definition ++ turns → Definitions columns n turns messages
+definitions-back : (columns n : ℕ) (turns : List Further) (messages : List (List ℕ)) → turns_of (before_rows columns n) messages ≡ replicate n definition ++ turns → Definitions columns n turns messages
 definitions-back columns zero turns messages e = record { definitions = []; others = messages; messages_are = refl; definitions_are = tt; as_many = refl; turns_are = e }
 definitions-back columns (suc n) turns messages e =
     let step : Stepped (before_rows columns (suc n)) definition (replicate n definition ++ turns) messages = taken-step_back (before_rows columns (suc n)) messages definition (replicate n definition ++ turns) e in
-    let found : Definitions columns n turns step.others = definitions-back columns n turns step.others (ap (λ (reading : Reading). taken reading step.others) (sym (after-definition columns (suc n))) ∙ step.turns_are) in
+    let found : Definitions columns n turns step.others = definitions-back columns n turns step.others (ap (λ (reading : Reading). turns_of reading step.others) (sym (after-definition columns (suc n))) ∙ step.turns_are) in
     record {
       definitions = step.message ∷ found.definitions;
       others = found.others;
@@ -228,7 +228,7 @@ count-reply_back : (message : List ℕ) (columns : ℕ) → reply_of message ≡
 count-reply_back [] columns e = cc
 count-reply_back (byte ∷ bytes) columns e = reply-by_tests (byte == 0) (byte == 255) (is_ok_packet (byte ∷ bytes)) (refusal_of (byte ∷ bytes)) (column_count (byte ∷ bytes)) columns e
 
-counted-is : (columns : ℕ) → counted columns ≡ before_rows columns columns
+counted-is : (columns : ℕ) → columns_counted columns ≡ before_rows columns columns
 counted-is columns = let e : columns + 1 ≡ suc columns = omega arith in ap (λ (n : ℕ). record { columns = columns; awaited = n }) e
 
 definitions-and_eof : (columns : ℕ) (turns : List Further) → replicate (columns + 1) definition ++ turns ≡ replicate columns definition ++ definition ∷ turns
@@ -236,7 +236,7 @@ definitions-and_eof columns turns = ap (λ (l : List Further). l ++ turns) (repl
 
 pub set-taken : (columns : ℕ) (rows : List (List Cell)) (messages : List (List ℕ)) → IsResultSet columns rows messages → IsTaken columns rows messages
 set-taken columns rows messages set =
-    let behind : List (List ℕ) = set.row_messages ++ set.last ∷ [] in
+    let after : List (List ℕ) = set.row_messages ++ set.last ∷ [] in
     let turns : List Further = map row rows ++ end ∷ [] in
     record {
       first = set.count;
@@ -244,18 +244,18 @@ set-taken columns rows messages set =
       messages_are = set.messages_are;
       reply = count-reply set.count columns set.count_is;
       turns =
-          ap (λ (reading : Reading). taken reading (set.definitions ++ set.middle ∷ behind)) (counted-is columns)
-          ∙ definitions-forward columns columns set.definitions (set.middle ∷ behind) set.definitions_are set.as_many
-          ∙ ap (λ (l : List Further). replicate columns definition ++ l) (before-step columns 0 set.middle behind (ap definition_if set.middle_is) ∙ ap (λ (l : List Further). definition ∷ l) (rows-forward columns set.row_messages rows set.last set.rows_are set.last_is))
+          ap (λ (reading : Reading). turns_of reading (set.definitions ++ set.middle ∷ after)) (counted-is columns)
+          ∙ definitions-forward columns columns set.definitions (set.middle ∷ after) set.definitions_are set.as_many
+          ∙ ap (λ (l : List Further). replicate columns definition ++ l) (before-step columns 0 set.middle after (ap definition_if set.middle_is) ∙ ap (λ (l : List Further). definition ∷ l) (rows-forward columns set.row_messages rows set.last set.rows_are set.last_is))
           ∙ sym (definitions-and_eof columns turns);
     }
 
 pub set-taken_back : (columns : ℕ) (rows : List (List Cell)) (messages : List (List ℕ)) → IsTaken columns rows messages → IsResultSet columns rows messages
 set-taken_back columns rows messages set =
     let turns : List Further = map row rows ++ end ∷ [] in
-    let found : Definitions columns columns (definition ∷ turns) set.others = definitions-back columns columns (definition ∷ turns) set.others (ap (λ (reading : Reading). taken reading set.others) (sym (counted-is columns)) ∙ set.turns ∙ definitions-and_eof columns turns) in
+    let found : Definitions columns columns (definition ∷ turns) set.others = definitions-back columns columns (definition ∷ turns) set.others (ap (λ (reading : Reading). turns_of reading set.others) (sym (counted-is columns)) ∙ set.turns ∙ definitions-and_eof columns turns) in
     let step : Stepped (before_rows columns 0) definition turns found.others = taken-step_back (before_rows columns 0) found.others definition turns found.turns_are in
-    let ended : RowsAndEnd columns rows step.others = rows-back columns rows step.others (ap (λ (reading : Reading). taken reading step.others) (sym (after-definition columns 0)) ∙ step.turns_are) in
+    let ended : RowsAndEnd columns rows step.others = rows-back columns rows step.others (ap (λ (reading : Reading). turns_of reading step.others) (sym (after-definition columns 0)) ∙ step.turns_are) in
     record {
       count = set.first;
       definitions = found.definitions;

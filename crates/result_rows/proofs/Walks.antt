@@ -1,11 +1,11 @@
 -- Walks over strings and cells, one at a time.
 use Rattle.std.proofs.Common.{◌≡◌, ℕ, suc, zero, ◌+◌, ◌-◌, ◌<◌, List, [], ◌∷◌, length, Option, Some, None, option_map, option_and_then, unwrap_or, is_some, IsSome, refl, sym, ◌∙◌, ap, arith}
-use Rattle.result_rows.specs.Definition.{behind_strings}
-use Rattle.result_rows.specs.Row.{Cell, string_of, cell_of, cells_of, cells_or_none}
+use Rattle.wire_forms.specs.Definition.{after_strings}
+use Rattle.wire_forms.specs.Row.{Cell, string_of, cell_of, cells_of, cells_or_none}
 
 -- one string off the front of those that are left
-pub behind_strings_next : (n i : ℕ) (bytes : List ℕ) → i < n → behind_strings (n - i) bytes ≡ option_and_then (λ (string : List ℕ × List ℕ). behind_strings (n - (i + 1)) string.1) (string_of bytes)
-behind_strings_next n i bytes below = let e : n - i ≡ suc (n - (i + 1)) = omega arith in rw e
+pub after_strings_next : (n i : ℕ) (bytes : List ℕ) → i < n → after_strings (n - i) bytes ≡ option_and_then (λ (string : List ℕ × List ℕ). after_strings (n - (i + 1)) string.1) (string_of bytes)
+after_strings_next n i bytes below = let e : n - i ≡ suc (n - (i + 1)) = omega arith in rw e
 
 -- one cell off the front of those that are left
 pub cells_of_next : (n i : ℕ) (bytes : List ℕ) → i < n → cells_of (n - i) bytes ≡ option_and_then (λ (first : Cell × List ℕ). option_map (λ (cells : List Cell). first.0 ∷ cells) (cells_of (n - (i + 1)) first.1)) (cell_of bytes)

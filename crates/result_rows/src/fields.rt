@@ -1,8 +1,8 @@
 // The fields of the packets that a reply consists of.
 ghost use Rattle.std.specs.Prelude.{◌≡◌, option_map, option_copied};
-ghost use Rattle.result_rows.specs.Row.{front_of, string_of};
-ghost use Rattle.result_rows.specs.Definition.{behind_strings, is_fixed_part, is_definition, column_count};
-ghost use Rattle.result_rows.specs.Reply.{behind_number, is_ok_packet, is_eof_packet};
+ghost use Rattle.wire_forms.specs.Row.{front_of, string_of};
+ghost use Rattle.wire_forms.specs.Definition.{after_strings, is_fixed_part, is_definition, column_count};
+ghost use Rattle.wire_forms.specs.Reply.{after_number, is_ok_packet, is_eof_packet};
 
 use my_packets::lenenc_read;
 
@@ -26,10 +26,10 @@ pub(crate) fn string_of(bytes: &[u8]) -> Option<(&[u8], &[u8])>
     front_of(&bytes[from..], size)
 }
 
-// What stands behind so many length-encoded strings.
-#[tactic(auto, using(crate::proofs::Walks::behind_strings_next))]
-fn behind_strings(bytes: &[u8], count: u32) -> Option<&[u8]>
-    ensures { option_copied result ≡ behind_strings count bytes.now }
+// What stands after so many length-encoded strings.
+#[tactic(auto, using(crate::proofs::Walks::after_strings_next))]
+fn after_strings(bytes: &[u8], count: u32) -> Option<&[u8]>
+    ensures { option_copied result ≡ after_strings count bytes.now }
 {
     let mut rest = bytes;
     for _ in 0..count {
@@ -39,7 +39,7 @@ fn behind_strings(bytes: &[u8], count: u32) -> Option<&[u8]>
     Some(rest)
 }
 
-// Whether the fields of a fixed length stand behind the strings.
+// Whether the fields of a fixed length stand after the strings.
 fn is_fixed_part(bytes: Option<&[u8]>) -> bool
     ensures { result ≡ is_fixed_part (option_copied bytes.entry) }
 {
@@ -53,7 +53,7 @@ fn is_fixed_part(bytes: Option<&[u8]>) -> bool
 pub(crate) fn is_definition(payload: &[u8]) -> bool
     ensures { result ≡ is_definition payload.now }
 {
-    is_fixed_part(behind_strings(payload, 6))
+    is_fixed_part(after_strings(payload, 6))
 }
 
 // The number of columns that begins a result set.
@@ -67,9 +67,9 @@ pub(crate) fn column_count(payload: &[u8]) -> Option<u32>
     None
 }
 
-// What stands behind the length-encoded integer that begins the bytes.
-fn behind_number(bytes: &[u8]) -> Option<&[u8]>
-    ensures { option_copied result ≡ behind_number bytes.now }
+// What stands after the length-encoded integer that begins the bytes.
+fn after_number(bytes: &[u8]) -> Option<&[u8]>
+    ensures { option_copied result ≡ after_number bytes.now }
 {
     let (_, size) = lenenc_read(bytes)?;
     Some(&bytes[size..])
@@ -83,10 +83,10 @@ pub fn is_ok_packet(payload: &[u8]) -> bool
     let [0x00, numbers @ ..] = payload else {
         return false;
     };
-    let Some(insert_id) = behind_number(numbers) else {
+    let Some(insert_id) = after_number(numbers) else {
         return false;
     };
-    match behind_number(insert_id) {
+    match after_number(insert_id) {
         Some(status) => 4 <= status.len(),
         None => false,
     }

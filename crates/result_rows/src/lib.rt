@@ -7,11 +7,10 @@ mod laws;
 mod reader;
 mod refusal;
 mod row;
-mod short_text;
 
 pub use fields::is_ok_packet;
 pub use laws::{a_front_tells_a_reply, a_whole_result_set_is_what_the_reader_takes};
-pub use reader::{Reply, ReplyFault, RowReader, Turn};
-pub use refusal::Refusal;
+pub use reader::{ReplyFault, RowReader, Turn};
+pub use refusal::refusal_read;
 pub use row::{Cells, Row};
-pub use short_text::ShortText;
+pub use wire_forms::{Refusal, Reply, ShortText};

@@ -1,37 +1,27 @@
 // Replies, message by message.
 ghost use Rattle.std.specs.Prelude.{◌≡◌, ◌<◌, nat_lt, Some, IsSome};
-ghost use Rattle.result_rows.specs.Reply.{reply_of};
-ghost use Rattle.result_rows.specs.Reading.{idle, counted, row_of, further_of, after};
-ghost use Rattle.result_rows.specs.Row.{cells_of};
+ghost use Rattle.wire_forms.specs.Reply.{reply_of};
+ghost use Rattle.wire_forms.specs.Reading.{idle, columns_counted, row_of, further_of, reading_after};
+ghost use Rattle.wire_forms.specs.Row.{cells_of};
 ghost use Rattle.result_rows.specs.RowCells.{row_cells};
 ghost use Rattle.result_rows.specs.Turns.{IsReply, IsTurn};
 
 use crate::fields::{column_count, is_definition, is_eof_packet, is_ok_packet};
-use crate::refusal::Refusal;
+use crate::refusal::refusal_read;
 use crate::row::Row;
 use my_packets::Message;
 use std::marker::Model;
 use thiserror::Error;
-
-/// The first message of a reply to a query. (MySQL source documentation, `COM_QUERY Response`.)
-#[derive(Clone, Copy)]
-pub enum Reply {
-    /// An OK: the reply ends here.
-    Done,
-    /// An ERR: the reply ends here.
-    Refused(Refusal),
-    /// A result set of so many columns begins.
-    Columns(u32),
-}
+use wire_forms::{Refusal, Reply};
 
 /// A further message of a result set.
 #[derive(Drop)]
 pub enum Turn<'a> {
-    /// A column definition, or the EOF behind the definitions.
+    /// A column definition, or the EOF after the definitions.
     Definition,
     /// A row.
     Row(Row<'a>),
-    /// The EOF behind the rows.
+    /// The EOF after the rows.
     End,
     /// An ERR in place of a row, which ends the result set.
     Refused(Refusal),
@@ -58,7 +48,7 @@ pub struct RowReader {
 }
 
 impl Model for RowReader {
-    ghost use Rattle.result_rows.specs.Reading.{Reading};
+    ghost use Rattle.wire_forms.specs.Reading.{Reading};
 
     ghost Value = { Reading };
 
@@ -80,7 +70,7 @@ impl RowReader {
 
     /// Reads the first message of a reply. `LocalInfile` exactly where it begins with 0xfb, and
     /// `Garbled` exactly where it is no OK, no ERR, no number of columns from 1 to 65,535, and doesn't
-    /// begin so. Behind `Columns` the messages of a result set are pending, behind any other answer
+    /// begin so. After `Columns` the messages of a result set are pending, after any other answer
     /// nothing is. Takes no memory.
     pub fn first(&mut self, payload: &[u8]) -> Result<Reply, ReplyFault>
         ensures { IsReply payload.now (reply_of payload.now) result self.new }
@@ -90,7 +80,7 @@ impl RowReader {
         match payload {
             [0x00, ..] if is_ok_packet(payload) => Ok(Reply::Done),
             [0x00, ..] => Err(ReplyFault::Garbled),
-            [0xff, ..] => match Refusal::read(payload) {
+            [0xff, ..] => match refusal_read(payload) {
                 Some(refusal) => Ok(Reply::Refused(refusal)),
                 None => Err(ReplyFault::Garbled),
             },
@@ -114,13 +104,13 @@ impl RowReader {
 
     /// Reads a further message of a result set. The condition is that one is pending
     /// ([`RowReader::is_pending`]). `Garbled` exactly where it is none of those that may follow, and
-    /// then the reader stays as it was. Behind `End` and `Refused` nothing is pending. Takes no memory.
+    /// then the reader stays as it was. After `End` and `Refused` nothing is pending. Takes no memory.
     #[inline]
     pub fn more<'a>(&mut self, message: Message<'a>) -> Result<Turn<'a>, ReplyFault>
         requires pending { 0 < self.old.columns }
 
         ensures turn { IsTurn message.entry.place result (further_of self.old message.entry.payload.now) }
-        ensures after { self.new ≡ after self.old (further_of self.old message.entry.payload.now) }
+        ensures after { self.new ≡ reading_after self.old (further_of self.old message.entry.payload.now) }
     {
         if self.awaited == 0 {
             return self.row(message);
@@ -153,7 +143,7 @@ impl RowReader {
     #[inline]
     fn row<'a>(&mut self, message: Message<'a>) -> Result<Turn<'a>, ReplyFault>
         ensures turn { IsTurn message.entry.place result (row_of self.old.columns message.entry.payload.now) }
-        ensures after { self.new ≡ after self.old (row_of self.old.columns message.entry.payload.now) }
+        ensures after { self.new ≡ reading_after self.old (row_of self.old.columns message.entry.payload.now) }
     {
         match message.payload {
             [0xfe, rest @ ..] if rest.len() < 8 => {
@@ -163,7 +153,7 @@ impl RowReader {
                 *self = RowReader::new();
                 Ok(Turn::End)
             }
-            [0xff, ..] => match Refusal::read(message.payload) {
+            [0xff, ..] => match refusal_read(message.payload) {
                 Some(refusal) => {
                     *self = RowReader::new();
                     Ok(Turn::Refused(refusal))

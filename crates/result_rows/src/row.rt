@@ -1,6 +1,6 @@
 // Rows, and their cells one after the other.
 ghost use Rattle.std.specs.Prelude.{◌≡◌, ◌<◌, length, is_some, IsSome, slice_index_or, MatchOption, Some, None, option_map, option_copied};
-ghost use Rattle.result_rows.specs.Row.{cell_of, cells_of};
+ghost use Rattle.wire_forms.specs.Row.{cell_of, cells_of};
 
 use crate::fields::string_of;
 use std::marker::Model;
@@ -96,7 +96,7 @@ pub struct Cells<'a> {
 
 impl<'a> Model for Cells<'a> {
     ghost use Rattle.std.specs.Prelude.{List, IsSome};
-    ghost use Rattle.result_rows.specs.Row.{Cell, cells_of, cells_or_none};
+    ghost use Rattle.wire_forms.specs.Row.{Cell, cells_of, cells_or_none};
 
     ghost Value = { List Cell };
 
@@ -140,7 +140,7 @@ fn cell_of(bytes: &[u8]) -> Option<(Option<&[u8]>, &[u8])>
     Some((Some(cell), rest))
 }
 
-// Whether the bytes are so many cells and nothing behind them.
+// Whether the bytes are so many cells and nothing after them.
 #[inline]
 #[tactic(auto, using(crate::proofs::Walks::cells_of_next, crate::proofs::Walks::are_cells_next))]
 fn are_cells(columns: u32, payload: &[u8]) -> bool

@@ -4,63 +4,23 @@ use Rattle.std.specs.Prelude.{count_by, IsTrue}
 use Rattle.std.specs.List.{list_all, list_any}
 use Rattle.std.proofs.lemmas.Slice.Eq.{bytes_eq-Decides, slice_eq-Decides}
 use Rattle.std.proofs.lemmas.Bool.Decides.{Decides-eqb}
-use Rattle.object_texts.specs.declared.head.Kind.{Kind}
-use Rattle.object_texts.specs.declared.head.Kind.TheVariants.{Schema, Table, Procedure, Function, View, Trigger}
-use Rattle.sql_literals.specs.declared.cell.Cell.{Cell}
-use Rattle.sql_literals.specs.declared.cell.Cell.TheVariants.{Null, Value}
-use Rattle.server_model.specs.Agree.{Agree, HasSameObjects, comes_before, is_before, is_trigger, object_eq, settings_eq}
-use Rattle.server_model.specs.Bag.{IsSameBag, count_of}
-use Rattle.server_model.specs.Equal.{cell_eq, kind_eq, row_eq}
-use Rattle.server_model.specs.Fold.{is_need, is_of_table, rows_in, rows_of, table_of}
+use Rattle.object_forms.specs.declared.kind.Kind.{Kind}
+use Rattle.object_forms.specs.declared.kind.Kind.TheVariants.{Schema, Table, Procedure, Function, View, Trigger}
+use Rattle.sql_cells.specs.declared.cell.Cell.{Cell}
+use Rattle.sql_cells.specs.declared.cell.Cell.TheVariants.{Null, Value}
+use Rattle.server_data.specs.Agree.{Agree, HasSameObjects, comes_before, is_before, is_trigger, object_eq, settings_eq}
+use Rattle.server_data.specs.Bag.{IsSameBag, count_of}
+use Rattle.server_data.specs.Equal.{cell_eq, kind_eq, row_eq}
+use Rattle.server_data.specs.Fold.{is_need, is_of_table, rows_in, rows_of, table_of}
 use Rattle.server_model.specs.Members.{agrees, is_as_often, is_same, same_objects, same_order, same_pair, same_pairs, same_row, same_rows, same_table}
-use Rattle.server_model.specs.declared.data.Database.{Database}
-use Rattle.server_model.specs.declared.data.Object.{Object}
-use Rattle.server_model.specs.declared.data.Settings.{Settings}
-use Rattle.server_model.specs.declared.data.TableRows.{TableRows}
-use Rattle.server_model.proofs.Counts.{alike, and_both, and_left, and_right, count_front, count_none, counted, equal, every, found, or_right, where_not}
+use Rattle.server_data.specs.declared.data.Database.{Database}
+use Rattle.server_data.specs.declared.data.Object.{Object}
+use Rattle.server_data.specs.declared.data.Settings.{Settings}
+use Rattle.server_data.specs.declared.data.TableRows.{TableRows}
+use Rattle.server_data.proofs.Equals.{bytes_are, cell_eq-Decides, kind_is, row_is}
+use Rattle.server_data.proofs.Counts.{alike, and_both, and_left, and_right, count_front, count_none, counted, equal, every, found, or_right, where_not}
 
 -- objects
-
-kind_is : (one other : Kind) → kind_eq one other ≡ true → one ≡ other
-kind_is Schema Schema e = refl
-kind_is Schema Table e = absurd (cc)
-kind_is Schema Procedure e = absurd (cc)
-kind_is Schema Function e = absurd (cc)
-kind_is Schema View e = absurd (cc)
-kind_is Schema Trigger e = absurd (cc)
-kind_is Table Schema e = absurd (cc)
-kind_is Table Table e = refl
-kind_is Table Procedure e = absurd (cc)
-kind_is Table Function e = absurd (cc)
-kind_is Table View e = absurd (cc)
-kind_is Table Trigger e = absurd (cc)
-kind_is Procedure Schema e = absurd (cc)
-kind_is Procedure Table e = absurd (cc)
-kind_is Procedure Procedure e = refl
-kind_is Procedure Function e = absurd (cc)
-kind_is Procedure View e = absurd (cc)
-kind_is Procedure Trigger e = absurd (cc)
-kind_is Function Schema e = absurd (cc)
-kind_is Function Table e = absurd (cc)
-kind_is Function Procedure e = absurd (cc)
-kind_is Function Function e = refl
-kind_is Function View e = absurd (cc)
-kind_is Function Trigger e = absurd (cc)
-kind_is View Schema e = absurd (cc)
-kind_is View Table e = absurd (cc)
-kind_is View Procedure e = absurd (cc)
-kind_is View Function e = absurd (cc)
-kind_is View View e = refl
-kind_is View Trigger e = absurd (cc)
-kind_is Trigger Schema e = absurd (cc)
-kind_is Trigger Table e = absurd (cc)
-kind_is Trigger Procedure e = absurd (cc)
-kind_is Trigger Function e = absurd (cc)
-kind_is Trigger View e = absurd (cc)
-kind_is Trigger Trigger e = refl
-
-bytes_are : (a b : List ℕ) → bytes_eq a b ≡ true → a ≡ b
-bytes_are a b e = (bytes_eq-Decides a b).0 e
 
 settings_alike : (a b c : Option Settings) → settings_eq a b ≡ true → settings_eq a c ≡ settings_eq b c
 settings_alike None None c e = refl
@@ -68,10 +28,10 @@ settings_alike None (Some b) c e = absurd (cc)
 settings_alike (Some a) None c e = absurd (cc)
 settings_alike (Some a) (Some b) None e = refl
 settings_alike (Some a) (Some b) (Some c) e =
-    let behind = and_right (bytes_eq a.sql_mode b.sql_mode) _ e in
+    let after = and_right (bytes_eq a.sql_mode b.sql_mode) _ e in
     let mode = bytes_are a.sql_mode b.sql_mode (and_left _ _ e) in
-    let client = bytes_are a.client b.client (and_left _ _ behind) in
-    let collation = bytes_are a.collation b.collation (and_right (bytes_eq a.client b.client) _ behind) in
+    let client = bytes_are a.client b.client (and_left _ _ after) in
+    let collation = bytes_are a.collation b.collation (and_right (bytes_eq a.client b.client) _ after) in
     rw (mode, client, collation) refl
 
 -- an object that is the same as another is the same as those that the other is the same as
@@ -106,15 +66,6 @@ objects_all one other is = and_both _ _ (every _ one.objects often) (every _ oth
     often object = (Decides-eqb (count_by (object_eq object) one.objects) (count_by (object_eq object) other.objects)).1 (is.counts object)
 
 -- rows
-
-cell_eq-Decides : (a b : Cell) → Decides (cell_eq a b) (a ≡ b)
-cell_eq-Decides Null Null = (λ e. refl, λ e. refl)
-cell_eq-Decides (Value a) (Value b) = (λ e. ap (λ (l : List ℕ). Value l) ((bytes_eq-Decides a b).0 e), λ e. (bytes_eq-Decides a b).1 (cc))
-cell_eq-Decides Null (Value b) = (λ e. cc, λ e. cc)
-cell_eq-Decides (Value a) Null = (λ e. cc, λ e. cc)
-
-pub row_is : (a b : List Cell) → row_eq a b ≡ true → a ≡ b
-row_is a b e = (slice_eq-Decides cell_eq-Decides a b (row_eq a b) refl).0 e
 
 counted_rows : (one other : Database) (schema name : List ℕ) (row : List Cell) (tables : List TableRows) → list_all (same_table one other) tables ≡ true
     → (count_of row (rows_in schema name tables) ≡ 0) ⊎ (count_of row (rows_of one schema name) ≡ count_of row (rows_of other schema name))
@@ -221,11 +172,11 @@ agreed one other b is = (there, back)
     there : IsTrue b → Agree one other
     there e =
         let all = sym is ∙ e in
-        let behind = and_right (same_objects one other) (same_order one other && same_rows one other) all in
+        let after = and_right (same_objects one other) (same_order one other && same_rows one other) all in
         record {
           objects = objects_from one other (and_left (same_objects one other) (same_order one other && same_rows one other) all);
-          order = order_from one other (and_left (same_order one other) (same_rows one other) behind);
-          rows = rows_from one other (and_right (same_order one other) (same_rows one other) behind);
+          order = order_from one other (and_left (same_order one other) (same_rows one other) after);
+          rows = rows_from one other (and_right (same_order one other) (same_rows one other) after);
         }
 
     back : Agree one other → IsTrue b

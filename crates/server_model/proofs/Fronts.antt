@@ -2,11 +2,11 @@
 use Rattle.std.proofs.Common.{◌≡◌, ◌≤◌, ◌-◌, length, get_or, take, drop, subst, arith, Bool, true, false, List, [], ◌∷◌, ◌++◌, Option, Some, None, cond, refl, ap, sym, ◌∙◌, append_assoc}
 use Rattle.std.specs.Prelude.{ℕ, filter, option_map}
 use Rattle.std.proofs.lemmas.List.{take_rest}
-use Rattle.sql_literals.specs.declared.cell.Cell.{Cell}
-use Rattle.server_model.specs.Fold.{found_or_later, is_of_table, without_first, without_row}
-use Rattle.server_model.specs.declared.data.TableRows.{TableRows}
+use Rattle.sql_cells.specs.declared.cell.Cell.{Cell}
+use Rattle.server_data.specs.Fold.{found_or_later, is_of_table, without_first, without_row}
+use Rattle.server_data.specs.declared.data.TableRows.{TableRows}
 
--- a member is kept, and then those behind it that are
+-- a member is kept, and then those after it that are
 pub kept : {X : Type 0} (f : X → Bool) (made : List X) (x : X) (rest : List X) → (made ++ cond (f x) (x ∷ []) []) ++ filter f rest ≡ made ++ filter f (x ∷ rest)
 kept {X = X} f made x rest = by_test (f x)
   where

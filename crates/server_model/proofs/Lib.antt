@@ -1,4 +1,2 @@
 pub mod Agreements
-pub mod Counts
 pub mod Fronts
-pub mod Orders

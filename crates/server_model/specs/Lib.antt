@@ -1,10 +1,1 @@
-pub mod Equal
-pub mod Bag
-pub mod Fold
-pub mod Agree
-pub mod Select
-pub mod History
-pub mod Names
 pub mod Members
-pub mod Laws
-pub mod Lending

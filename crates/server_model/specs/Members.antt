@@ -1,15 +1,15 @@
 -- What is tested of two databases at each of their members. That this is agreement is proved, not said.
 use Rattle.std.specs.Prelude.{ℕ, ◌==◌, ◌&&◌, ◌||◌, not, if◌then◌else◌, Bool, List, count_by}
 use Rattle.std.specs.List.{list_all}
-use Rattle.object_texts.specs.declared.head.Kind.TheVariants.{Trigger}
-use Rattle.sql_literals.specs.declared.cell.Cell.{Cell}
-use Rattle.server_model.specs.Agree.{is_before, object_eq}
-use Rattle.server_model.specs.Bag.{count_of}
-use Rattle.server_model.specs.Equal.{kind_eq}
-use Rattle.server_model.specs.Fold.{rows_of, table_of}
-use Rattle.server_model.specs.declared.data.Database.{Database}
-use Rattle.server_model.specs.declared.data.Object.{Object}
-use Rattle.server_model.specs.declared.data.TableRows.{TableRows}
+use Rattle.object_forms.specs.declared.kind.Kind.TheVariants.{Trigger}
+use Rattle.sql_cells.specs.declared.cell.Cell.{Cell}
+use Rattle.server_data.specs.Agree.{is_before, object_eq}
+use Rattle.server_data.specs.Bag.{count_of}
+use Rattle.server_data.specs.Equal.{kind_eq}
+use Rattle.server_data.specs.Fold.{rows_of, table_of}
+use Rattle.server_data.specs.declared.data.Database.{Database}
+use Rattle.server_data.specs.declared.data.Object.{Object}
+use Rattle.server_data.specs.declared.data.TableRows.{TableRows}
 
 -- both hold, or none
 abbrev pub is_same : Bool → Bool → Bool

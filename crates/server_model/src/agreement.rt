@@ -1,17 +1,16 @@
 // Whether two databases agree.
 ghost use Rattle.std.specs.Prelude.{◌≡◌, ◌↔◌, ◌+◌, ◌&&◌, IsTrue, count_by, bytes_eq, if◌then◌else◌};
 ghost use Rattle.std.specs.List.{list_all, list_any};
-ghost use Rattle.server_model.specs.Agree.{Agree, comes_before, is_before, is_trigger, object_eq, settings_eq};
-ghost use Rattle.server_model.specs.Bag.{count_of};
-ghost use Rattle.server_model.specs.Fold.{is_need, is_of_table, rows_in, rows_of, table_of};
+ghost use Rattle.server_data.specs.Agree.{Agree, comes_before, is_before, is_trigger, object_eq, settings_eq};
+ghost use Rattle.server_data.specs.Bag.{count_of};
+ghost use Rattle.server_data.specs.Fold.{is_need, is_of_table, rows_in, rows_of, table_of};
 ghost use Rattle.server_model.specs.Members.{agrees, is_as_often, is_same, same_objects, same_order, same_pair, same_pairs, same_row, same_rows, same_table};
 
-use crate::data::{Database, Need, Object, Settings, TableRows};
 use crate::equal::{are_bytes, is_kind, is_row};
 use crate::find::{is_of_table, table_of};
-use crate::rows::CellList;
-use object_texts::Kind;
-use sql_literals::Cell;
+use object_forms::Kind;
+use server_data::{CellList, Database, Need, Object, Settings, TableRows};
+use sql_cells::Cell;
 
 /// Whether the two hold the same objects, each table's triggers in the same order, and in each table
 /// the same rows, each as often. Takes no memory. Its time grows with the squares of the numbers of
@@ -143,7 +142,7 @@ fn is_before_there(database: &Database, first: &Object, second: &Object) -> bool
     )
 }
 
-#[tactic(auto, unfolding(crate::specs::Agree::is_before))]
+#[tactic(auto, unfolding(server_data::specs::Agree::is_before))]
 fn is_before(database: &Database, schema: &[u8], table: &[u8], first: &[u8], second: &[u8]) -> bool
     ensures { result ≡ is_before database.now schema.now table.now first.now second.now }
 {
@@ -151,7 +150,7 @@ fn is_before(database: &Database, schema: &[u8], table: &[u8], first: &[u8], sec
     objects.iter().any(|one| goes_before(objects, schema, table, first, second, one))
 }
 
-// The object is the first trigger, and the second is among those behind it.
+// The object is the first trigger, and the second is among those after it.
 fn goes_before(
     objects: &[Object],
     schema: &[u8],
@@ -162,16 +161,16 @@ fn goes_before(
 ) -> bool
     ensures { result ≡ (is_trigger schema.now table.now first.now one.now && list_any (λ other. is_trigger schema.now table.now second.now other && comes_before one.now other) objects.now) }
 {
-    is_trigger(schema, table, first, one) && has_behind(objects, schema, table, second, one)
+    is_trigger(schema, table, first, one) && has_after(objects, schema, table, second, one)
 }
 
-fn has_behind(objects: &[Object], schema: &[u8], table: &[u8], second: &[u8], one: &Object) -> bool
+fn has_after(objects: &[Object], schema: &[u8], table: &[u8], second: &[u8], one: &Object) -> bool
     ensures { result ≡ list_any (λ other. is_trigger schema.now table.now second.now other && comes_before one.now other) objects.now }
 {
-    objects.iter().any(|other| is_trigger_behind(schema, table, second, one, other))
+    objects.iter().any(|other| is_trigger_after(schema, table, second, one, other))
 }
 
-fn is_trigger_behind(
+fn is_trigger_after(
     schema: &[u8],
     table: &[u8],
     second: &[u8],
@@ -249,7 +248,7 @@ fn same_row(one: &Database, other: &Database, schema: &[u8], name: &[u8], row: &
 }
 
 // How often the row stands in the table.
-#[tactic(auto, unfolding(crate::specs::Fold::rows_of))]
+#[tactic(auto, unfolding(server_data::specs::Fold::rows_of))]
 fn count_row(database: &Database, schema: &[u8], name: &[u8], row: &[Cell]) -> u128
     ensures { result ≡ count_of row.now (rows_of database.now schema.now name.now) }
 {
@@ -279,7 +278,7 @@ fn count_in_table(one: &TableRows, schema: &[u8], name: &[u8], row: &[Cell]) -> 
     }
 }
 
-#[tactic(auto, unfolding(crate::specs::Bag::count_of))]
+#[tactic(auto, unfolding(server_data::specs::Bag::count_of))]
 fn count_in_rows(rows: &[CellList], row: &[Cell]) -> usize
     ensures { result ≡ count_of row.now rows.now }
 {

@@ -1,9 +1,9 @@
 // Whether kinds, bytes, cells and rows are equal.
 ghost use Rattle.std.specs.Prelude.{◌≡◌, bytes_eq};
-ghost use Rattle.server_model.specs.Equal.{cell_eq, kind_eq, row_eq};
+ghost use Rattle.server_data.specs.Equal.{cell_eq, kind_eq, row_eq};
 
-use object_texts::Kind;
-use sql_literals::Cell;
+use object_forms::Kind;
+use sql_cells::Cell;
 
 pub(crate) fn is_kind(one: Kind, other: Kind) -> bool
     ensures { result ≡ kind_eq one other }

@@ -1,10 +1,10 @@
 // What is in a database.
 ghost use Rattle.std.specs.Prelude.{◌≡◌};
-ghost use Rattle.server_model.specs.Fold.{has_object, has_schema, is_need, is_object, is_of_table, table_of};
+ghost use Rattle.server_data.specs.Fold.{has_object, has_schema, is_need, is_object, is_of_table, table_of};
 
-use crate::data::{Database, Need, Object, TableRows};
 use crate::equal::{are_bytes, is_kind};
-use object_texts::Kind;
+use object_forms::Kind;
+use server_data::{Database, Need, Object, TableRows};
 
 pub(crate) fn is_object(kind: Kind, schema: &[u8], name: &[u8], object: &Object) -> bool
     ensures { result ≡ is_object kind schema.now name.now object.now }
@@ -14,7 +14,7 @@ pub(crate) fn is_object(kind: Kind, schema: &[u8], name: &[u8], object: &Object)
         && are_bytes(object.name.as_slice(), name)
 }
 
-#[tactic(auto, unfolding(crate::specs::Fold::has_object))]
+#[tactic(auto, unfolding(server_data::specs::Fold::has_object))]
 pub(crate) fn has_object(database: &Database, kind: Kind, schema: &[u8], name: &[u8]) -> bool
     ensures { result ≡ has_object database.now kind schema.now name.now }
 {

@@ -1,19 +1,20 @@
 // The database after a history.
 ghost use Rattle.std.specs.Prelude.{◌≡◌, ◌++◌, IfOk, Some, None, filter, if◌then◌else◌, length, not};
 ghost use Rattle.std.specs.List.{list_any};
-ghost use Rattle.object_texts.specs.declared.head.Kind.TheVariants.{Table};
-ghost use Rattle.server_model.specs.declared.data.Change.TheVariants.{Make, Drop, Put, Remove};
-ghost use Rattle.server_model.specs.Equal.{kind_eq};
-ghost use Rattle.server_model.specs.Fold.{change_db, changes_db, db, fits_row, has_object, has_place, is_object, is_of_table, is_plain, may_drop, may_make, plain_count, stands_in, table_of, takes_row, without_first, without_row};
+ghost use Rattle.object_forms.specs.declared.kind.Kind.TheVariants.{Table};
+ghost use Rattle.server_data.specs.declared.data.Change.TheVariants.{Make, Drop, Put, Remove};
+ghost use Rattle.server_data.specs.Equal.{kind_eq};
+ghost use Rattle.server_data.specs.Fold.{change_db, changes_db, db, fits_row, has_object, has_place, is_object, is_of_table, is_plain, may_drop, may_make, plain_count, stands_in, table_of, takes_row, without_first, without_row};
 
-use crate::data::{Change, Database, History, Need, Object, ObjectList, TableList, TableRows};
 use crate::equal::{are_bytes, is_kind, is_row};
 use crate::find::{has_object, has_schema, is_object, is_of_table, table_of};
 use crate::lists::{append, push_if};
-use crate::rows::{CellList, RowList};
-use object_texts::{Column, Kind};
-use plain_data::{OutOfMemory, PlainList};
-use sql_literals::{Cell, Name};
+use object_forms::{Column, Kind};
+use plain_data::{Name, OutOfMemory, PlainList};
+use server_data::{
+    CellList, Change, Database, History, Need, Object, ObjectList, RowList, TableList, TableRows,
+};
+use sql_cells::Cell;
 use std::alloc::Global;
 
 /// The database after the history, which starts with nothing; None where a change doesn't fit. It is
@@ -64,7 +65,7 @@ fn apply(alloc: Global, database: &mut Database, change: &Change) -> Result<bool
     }
 }
 
-#[tactic(auto, unfolding(crate::specs::Fold::change_db))]
+#[tactic(auto, unfolding(server_data::specs::Fold::change_db))]
 fn make(database: &mut Database, object: &Object) -> Result<bool, OutOfMemory>
     ensures { IfOk result (λ fits. change_db database.old (Make object.now) ≡ (if fits then Some database.new else None)) }
 {
@@ -75,7 +76,7 @@ fn make(database: &mut Database, object: &Object) -> Result<bool, OutOfMemory>
     Ok(true)
 }
 
-#[tactic(auto, unfolding(crate::specs::Fold::change_db))]
+#[tactic(auto, unfolding(server_data::specs::Fold::change_db))]
 fn drop_object(
     alloc: Global,
     database: &mut Database,
@@ -95,7 +96,7 @@ fn drop_object(
         schema.as_slice(),
         name.as_slice(),
     )?;
-    database.rows = tables_behind(
+    database.rows = tables_after(
         alloc,
         database.rows.as_slice(),
         kind,
@@ -105,7 +106,7 @@ fn drop_object(
     Ok(true)
 }
 
-#[tactic(auto, unfolding(crate::specs::Fold::change_db))]
+#[tactic(auto, unfolding(server_data::specs::Fold::change_db))]
 fn put(
     alloc: Global,
     database: &mut Database,
@@ -135,7 +136,7 @@ fn put(
     Ok(true)
 }
 
-#[tactic(auto, unfolding(crate::specs::Fold::change_db))]
+#[tactic(auto, unfolding(server_data::specs::Fold::change_db))]
 fn remove(
     alloc: Global,
     database: &mut Database,
@@ -164,7 +165,7 @@ fn remove(
     }
 }
 
-#[tactic(auto, unfolding(crate::specs::Fold::may_make))]
+#[tactic(auto, unfolding(server_data::specs::Fold::may_make))]
 fn may_make(database: &Database, object: &Object) -> bool
     ensures { result ≡ may_make database.now object.now }
 {
@@ -200,7 +201,7 @@ fn has_table_of(database: &Database, needs: &[Need]) -> bool
     has_object(database, Kind::Table, schema, name)
 }
 
-#[tactic(auto, unfolding(crate::specs::Fold::may_drop))]
+#[tactic(auto, unfolding(server_data::specs::Fold::may_drop))]
 fn may_drop(database: &Database, kind: Kind, schema: &[u8], name: &[u8]) -> bool
     ensures { result ≡ may_drop database.now kind schema.now name.now }
 {
@@ -270,7 +271,7 @@ fn objects_without(
 }
 
 // The rows that stay where such an object is dropped.
-fn tables_behind(
+fn tables_after(
     alloc: Global,
     tables: &[TableRows],
     kind: Kind,

@@ -1,24 +1,22 @@
 // What a choice selects of a database.
 ghost use Rattle.std.specs.Prelude.{◌≡◌, None, filter, ◌||◌, IfOk, bytes_eq};
 ghost use Rattle.std.specs.List.{list_any};
-ghost use Rattle.server_model.specs.Fold.{is_need, table_of};
-ghost use Rattle.server_model.specs.Select.{has_selected_table, is_empty, is_reserved, names_or_any, selected, selects_kind, selects_object, selects_rows, selects_schema, selects_table};
+ghost use Rattle.server_data.specs.Fold.{is_need, table_of};
+ghost use Rattle.server_data.specs.Select.{has_selected_table, is_empty, is_reserved, names_or_any, selection, selects_kind, selects_object, selects_rows, selects_schema, selects_table};
 
-use crate::choice::Choice;
-use crate::data::{Database, Need, Object, ObjectList, TableList, TableRows};
 use crate::equal::are_bytes;
 use crate::find::{has_object, has_schema, is_need, table_of};
 use crate::lists::push_if;
-use object_texts::Kind;
-use plain_data::{OutOfMemory, PlainList};
-use sql_literals::Name;
+use object_forms::Kind;
+use plain_data::{Name, OutOfMemory, PlainList};
+use server_data::{Choice, Database, Need, Object, ObjectList, TableList, TableRows};
 use std::alloc::Global;
 
 /// What the choice selects of the database: the objects in their order, and the rows of the
 /// selected tables. It is refused only for want of memory.
 pub fn select(alloc: Global, database: &Database, choice: &Choice) -> Result<Database, OutOfMemory>
     requires no_pattern { choice.now.pattern ≡ None }
-    ensures { IfOk result (λ made. made ≡ selected choice.now database.now) }
+    ensures { IfOk result (λ made. made ≡ selection choice.now database.now) }
 {
     Ok(Database {
         objects: selected_objects(alloc, database, choice)?,

@@ -1,6 +1,6 @@
 -- What is pending on a session.
 use Rattle.std.specs.Prelude.{◌≡◌, ◌<◌, Bool, true, false}
-use Rattle.result_rows.specs.Reading.{Reading, idle}
+use Rattle.wire_forms.specs.Reading.{Reading, idle}
 
 -- rows are pending, or nothing is
 abbrev pub Pends : Bool → Reading → Type 0

@@ -1,15 +1,15 @@
 // A session that is asked.
 ghost use Rattle.std.specs.Prelude.{◌≡◌, true, false};
-ghost use Rattle.result_rows.specs.Reading.{idle};
+ghost use Rattle.wire_forms.specs.Reading.{idle};
 ghost use Rattle.session_tests.specs.Waiting.{Pends};
 
 use crate::words::said;
-use link_traits::ReplyLink;
+use memory_outside::ReplyLink;
 use my_session::{Reads, Session, SessionFault};
 use percent_encoding::{CONTROLS, percent_encode};
+use plain_data::OutOfMemory;
 use result_rows::Row;
-use sql_literals::OutOfMemory;
-use sql_statements::{Command, Part, Query};
+use statement_forms::{Command, Part, Query};
 use std::alloc::Global;
 use std::marker::Model;
 
@@ -169,7 +169,7 @@ fn columns_words(alloc: Global, answer: &Result<u32, SessionFault>) -> Result<St
     }
 }
 
-// The cells, with a bar behind each.
+// The cells, with a bar after each.
 fn row_words(alloc: Global, row: &Row<'_>) -> Result<String, OutOfMemory> {
     let mut words = String::new(alloc);
     for cell in row.cells() {

@@ -1,7 +1,7 @@
 // Messages that have a name.
 
 use crate::words::bytes_of;
-use sql_literals::OutOfMemory;
+use plain_data::OutOfMemory;
 use std::alloc::Global;
 
 #[derive(Drop)]

@@ -3,9 +3,9 @@ ghost use Rattle.std.specs.Prelude.{◌≡◌, IfOk};
 
 use crate::names::Names;
 use crate::words::{first_word, numbers_of};
-use link_traits::{Conversation, ConversationList, ReplySite};
+use memory_outside::{Conversation, ConversationList, ReplySite};
 use my_packets::frame_into;
-use sql_literals::{Bytes, NumberList, OutOfMemory};
+use plain_data::{Bytes, NumberList, OutOfMemory};
 use std::alloc::Global;
 
 /// What a server says on its one link, the greatest answer of a `recv` (0 for no limit), and the calls

@@ -3,9 +3,10 @@
 use crate::asking::{Asking, fault_words};
 use crate::script::Script;
 use crate::words::{bytes_of, first_word, said, spelled};
-use link_traits::{ConversationList, ReplySite, Site};
+use link_traits::Site;
+use memory_outside::{ConversationList, ReplySite};
 use my_session::Session;
-use sql_literals::{NumberList, OutOfMemory};
+use plain_data::{NumberList, OutOfMemory};
 use std::alloc::Global;
 use std::marker::Model;
 
@@ -20,7 +21,7 @@ pub struct Talk {
 
 impl Model for Talk {
     ghost use Rattle.std.specs.Prelude.{◌≡◌, is_some, if◌then◌else◌};
-    ghost use Rattle.link_traits.specs.Replies.{SiteState};
+    ghost use Rattle.memory_outside.specs.Replies.{SiteState};
 
     ghost Value = { SiteState };
 

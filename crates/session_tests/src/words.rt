@@ -1,10 +1,10 @@
 // The words of cases, and what they stand for.
 
 use percent_encoding::{CONTROLS, percent_decode, percent_encode};
-use sql_literals::{NumberList, OutOfMemory};
+use plain_data::{NumberList, OutOfMemory};
 use std::alloc::Global;
 
-/// The first word, and what stands behind its space.
+/// The first word, and what stands after its space.
 pub fn first_word(words: &str) -> (&str, &str) {
     match words.split_once(' ') {
         Some(parts) => parts,

@@ -48,7 +48,7 @@ fn add_all(
     Ok(false)
 }
 
-// The same; whether the file may end has to be answered alike before and behind it.
+// The same; whether the file may end has to be answered alike before and after it.
 fn add_turn(
     words: &mut String,
     alloc: Global,

@@ -10,7 +10,7 @@ use std::alloc::Global;
 // No case has so many bytes.
 const MOST: usize = 1_000_000;
 
-// Writes out each statement that is ended, with a `|` behind it.
+// Writes out each statement that is ended, with a `|` after it.
 fn take_all(splitter: &mut Splitter, out: &mut Vec<u8>) -> Result<(), Stopped>
     requires { splitter.old.unread.offset + length splitter.old.unread.rest ≤ 2 ^ 62 }
 
@@ -28,7 +28,7 @@ fn take_all(splitter: &mut Splitter, out: &mut Vec<u8>) -> Result<(), Stopped>
     }
 }
 
-// The statements of a file, each with a `|` behind it, where the file is fed so many bytes at a time.
+// The statements of a file, each with a `|` after it, where the file is fed so many bytes at a time.
 fn divided(alloc: Global, file: &[u8], cut: usize) -> Result<Vec<u8>, Stopped>
     requires some { 0 < cut }
     requires small { length file.now ≤ 2 ^ 62 }
@@ -57,7 +57,7 @@ fn divided_words(alloc: Global, file: &[u8], cut: usize) -> Result<String, Stopp
     Ok(words)
 }
 
-// `texts FILE`: the statements of a file, each with a `|` behind it, the same in pieces of each size.
+// `texts FILE`: the statements of a file, each with a `|` after it, the same in pieces of each size.
 pub fn texts_anywhere(alloc: Global, words: &str) -> Result<String, Stopped> {
     let file = bytes_of(alloc, words)?;
     if file.is_empty() || file.len() > MOST {

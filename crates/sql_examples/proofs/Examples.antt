@@ -1,7 +1,7 @@
 -- Each text computes.
 use Rattle.std.specs.Fmt.{digits}
 use Rattle.std.specs.Prelude.{refl}
-use Rattle.sql_statements.specs.Text.{command_text, query_text}
+use Rattle.statement_forms.specs.Text.{command_text, query_text}
 use Rattle.sql_examples.specs.Texts.{CommandTexts, QueryTexts}
 
 pub commands : CommandTexts

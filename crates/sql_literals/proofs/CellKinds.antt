@@ -5,10 +5,10 @@ use Rattle.std.specs.List.{flat_map}
 use Rattle.hex.specs.Hex.{IsBytes, encode_upper, upper_digits, decode_pairs}
 use Rattle.hex.proofs.HexLemmas.{IsDigits-upper_digits, decode_pairs-encode_with}
 use Rattle.grammar.specs.Language.{Fixed, Or}
-use Rattle.sql_literals.specs.Literal.{Cell, escaped_byte, has_literal}
-use Rattle.sql_literals.specs.Spelling.{Null, Literal, unescaped, hex_bytes, IsReadBack}
-use Rattle.sql_literals.specs.declared.literal.CellKind.{CellKind}
-use Rattle.sql_literals.specs.declared.literal.CellKind.TheVariants.{Number, Text, Hex}
+use Rattle.sql_cells.specs.Literal.{Cell, escaped_byte, has_literal}
+use Rattle.sql_cells.specs.Spelling.{Null, Literal, text_value, hex_bytes, IsReadBack}
+use Rattle.sql_cells.specs.declared.cell_kind.CellKind.{CellKind}
+use Rattle.sql_cells.specs.declared.cell_kind.CellKind.TheVariants.{Number, Text, Hex}
 use Rattle.sql_literals.proofs.Grammar.{number_holds}
 use Rattle.sql_literals.proofs.ReadBacks.{inside_of, quoted_text, encoded_hex, read_null, read_number, read_quoted, read_hexadecimal, spells_number}
 use Rattle.sql_literals.proofs.Units.{escaped_back}
@@ -23,7 +23,7 @@ read_back Number (Some cell) has bytes = record {
   whole = λ more ends. read_number cell more (number_holds cell has) ends;
 }
 read_back Text (Some cell) has bytes = record {
-  spells = record { literal = inr (inr (inl (quoted_text cell))); cell_is = ap Some (sym (ap unescaped (inside_of (39 ∷ []) (flat_map escaped_byte cell) 39) ∙ escaped_back cell)) };
+  spells = record { literal = inr (inr (inl (quoted_text cell))); cell_is = ap Some (sym (ap text_value (inside_of (39 ∷ []) (flat_map escaped_byte cell) 39) ∙ escaped_back cell)) };
   whole = λ more ends. read_quoted cell more ends;
 }
 read_back Hex (Some cell) has bytes = record {

@@ -4,7 +4,7 @@ use Rattle.std.specs.List.{list_all}
 use Rattle.std.proofs.lemmas.Bool.{and_parts}
 use Rattle.std.proofs.lemmas.Bool.Decides.{nat_tests}
 use Rattle.grammar.specs.Language.{Nothing, Fixed, One, Then, Or, Times, Many}
-use Rattle.sql_literals.specs.Number.{is_digit, is_digits, is_fraction, is_unsigned_behind, is_number, Digits, Sign, Point, Fraction, Number}
+use Rattle.sql_cells.specs.Number.{is_digit, is_digits, is_fraction, is_unsigned_after, is_number, Digits, Sign, Point, Fraction, Number}
 
 more_digits : (x : ℕ) (xs : List ℕ) → is_digit x ≡ true → Many (One is_digit) xs → Many (One is_digit) (x ∷ xs)
 unfolding Many Times Then One
@@ -42,45 +42,45 @@ unfolding Digits Then One Many
 digits_pass xs (a, b, are, (x, is, digit), (n, digits)) =
     ap is_digits (are ∙ ap (λ t. t ++ b) is) ∙ ap (λ t. t && list_all is_digit b) digit ∙ many_pass n b digits
 
--- behind a digit the rest is digits and maybe a fraction
+-- after a digit the rest is digits and maybe a fraction
 
-behind_holds : (xs : List ℕ) → is_unsigned_behind true xs ≡ true → Then (Many (One is_digit)) Fraction xs
+after_holds : (xs : List ℕ) → is_unsigned_after true xs ≡ true → Then (Many (One is_digit)) Fraction xs
 unfolding Then Many Times Nothing Fraction Or
-behind_holds [] h = ([], [], refl, (0, refl), inr refl)
-behind_holds (x ∷ xs) h = first (is_digit x) refl h (λ h. behind_holds xs h) where
-  first : (digit : Bool) → is_digit x ≡ digit → cond digit (is_unsigned_behind true xs) (is_fraction (x ∷ xs)) ≡ true → (is_unsigned_behind true xs ≡ true → Then (Many (One is_digit)) Fraction xs) → Then (Many (One is_digit)) Fraction (x ∷ xs)
+after_holds [] h = ([], [], refl, (0, refl), inr refl)
+after_holds (x ∷ xs) h = first (is_digit x) refl h (λ h. after_holds xs h) where
+  first : (digit : Bool) → is_digit x ≡ digit → cond digit (is_unsigned_after true xs) (is_fraction (x ∷ xs)) ≡ true → (is_unsigned_after true xs ≡ true → Then (Many (One is_digit)) Fraction xs) → Then (Many (One is_digit)) Fraction (x ∷ xs)
   first true digit h more = let rest = more h in (x ∷ rest.0, rest.1, ap (λ t. x ∷ t) rest.2, more_digits x rest.0 digit rest.3, rest.4)
   first false digit h more = ([], x ∷ xs, refl, (0, refl), fraction_holds (x ∷ xs) h)
 
-unsigned_holds : (xs : List ℕ) → is_unsigned_behind false xs ≡ true → Then Digits Fraction xs
+unsigned_holds : (xs : List ℕ) → is_unsigned_after false xs ≡ true → Then Digits Fraction xs
 unfolding Then
 unsigned_holds [] h = absurd (cc)
 unsigned_holds (x ∷ xs) h = first (is_digit x) refl h where
-  first : (digit : Bool) → is_digit x ≡ digit → cond digit (is_unsigned_behind true xs) false ≡ true → Then Digits Fraction (x ∷ xs)
-  first true digit h = let rest = behind_holds xs h in (x ∷ rest.0, rest.1, ap (λ t. x ∷ t) rest.2, first_digit x rest.0 digit rest.3, rest.4)
+  first : (digit : Bool) → is_digit x ≡ digit → cond digit (is_unsigned_after true xs) false ≡ true → Then Digits Fraction (x ∷ xs)
+  first true digit h = let rest = after_holds xs h in (x ∷ rest.0, rest.1, ap (λ t. x ∷ t) rest.2, first_digit x rest.0 digit rest.3, rest.4)
   first false digit h = absurd (cc)
 
-fraction_passes : (xs : List ℕ) → Fraction xs → is_unsigned_behind true xs ≡ true
+fraction_passes : (xs : List ℕ) → Fraction xs → is_unsigned_after true xs ≡ true
 unfolding Fraction Or Point Then Fixed Nothing
-fraction_passes xs (inl (a, b, are, is, digits)) = ap (is_unsigned_behind true) (are ∙ ap (λ t. t ++ b) is) ∙ digits_pass b digits
-fraction_passes xs (inr none) = ap (is_unsigned_behind true) none
+fraction_passes xs (inl (a, b, are, is, digits)) = ap (is_unsigned_after true) (are ∙ ap (λ t. t ++ b) is) ∙ digits_pass b digits
+fraction_passes xs (inr none) = ap (is_unsigned_after true) none
 
-behind_passes : (n : ℕ) (a b : List ℕ) → Times (One is_digit) n a → Fraction b → is_unsigned_behind true (a ++ b) ≡ true
+after_passes : (n : ℕ) (a b : List ℕ) → Times (One is_digit) n a → Fraction b → is_unsigned_after true (a ++ b) ≡ true
 unfolding Times Nothing Then One
-behind_passes zero a b none fraction = ap (λ t. is_unsigned_behind true (t ++ b)) none ∙ fraction_passes b fraction
-behind_passes (suc n) a b (c, d, are, (x, is, digit), digits) fraction =
-    ap (λ t. is_unsigned_behind true (t ++ b)) (are ∙ ap (λ t. t ++ d) is) ∙ rw digit (behind_passes n d b digits fraction)
+after_passes zero a b none fraction = ap (λ t. is_unsigned_after true (t ++ b)) none ∙ fraction_passes b fraction
+after_passes (suc n) a b (c, d, are, (x, is, digit), digits) fraction =
+    ap (λ t. is_unsigned_after true (t ++ b)) (are ∙ ap (λ t. t ++ d) is) ∙ rw digit (after_passes n d b digits fraction)
 
-unsigned_passes : (a b : List ℕ) → Digits a → Fraction b → (x : ℕ) × (xs : List ℕ) × (a ++ b ≡ x ∷ xs) × (is_digit x ≡ true) × (is_unsigned_behind false (x ∷ xs) ≡ true)
+unsigned_passes : (a b : List ℕ) → Digits a → Fraction b → (x : ℕ) × (xs : List ℕ) × (a ++ b ≡ x ∷ xs) × (is_digit x ≡ true) × (is_unsigned_after false (x ∷ xs) ≡ true)
 unfolding Digits Then One Many
 unsigned_passes a b (c, d, are, (x, is, digit), (n, digits)) fraction =
-    (x, d ++ b, ap (λ t. t ++ b) (are ∙ ap (λ t. t ++ d) is), digit, rw digit (behind_passes n d b digits fraction))
+    (x, d ++ b, ap (λ t. t ++ b) (are ∙ ap (λ t. t ++ d) is), digit, rw digit (after_passes n d b digits fraction))
 
 pub number_holds : (bytes : List ℕ) → is_number bytes ≡ true → Number bytes
 unfolding Number Then Sign Or Nothing Fixed
 number_holds [] h = absurd (cc)
 number_holds (x ∷ xs) h = first (x == 45) refl h where
-  first : (minus : Bool) → (x == 45) ≡ minus → cond minus (is_unsigned_behind false xs) (is_unsigned_behind false (x ∷ xs)) ≡ true → Number (x ∷ xs)
+  first : (minus : Bool) → (x == 45) ≡ minus → cond minus (is_unsigned_after false xs) (is_unsigned_after false (x ∷ xs)) ≡ true → Number (x ∷ xs)
   first true is h =
       let parts = unsigned_holds xs h in
       let point : x ≡ 45 = grind (arith, nat_tests) in
@@ -92,7 +92,7 @@ unfolding Number Then Sign Or Nothing Fixed
 number_passes bytes (a, b, are, (c, d, parts, sign, digits), fraction) =
     let unsigned = unsigned_passes d b digits fraction in
     elim sign [
-      | inl minus ↦ ap is_number (are ∙ ap (λ t. t ++ b) (parts ∙ ap (λ t. t ++ d) minus)) ∙ ap (is_unsigned_behind false) unsigned.2 ∙ unsigned.4
+      | inl minus ↦ ap is_number (are ∙ ap (λ t. t ++ b) (parts ∙ ap (λ t. t ++ d) minus)) ∙ ap (is_unsigned_after false) unsigned.2 ∙ unsigned.4
       | inr none ↦
           let other : (unsigned.0 == 45) ≡ false = grind (arith, nat_tests, unsigned.3) in
           ap is_number (are ∙ ap (λ t. t ++ b) (parts ∙ ap (λ t. t ++ d) none) ∙ unsigned.2) ∙ rw other unsigned.4

@@ -4,8 +4,8 @@ use Rattle.std.specs.List.{flat_map, count_by}
 use Rattle.std.proofs.lemmas.List.{take_more, drop_more, take-append-drop, append-nil, drop-drop, get_or-drop, get_or-take, length-drop, length-take-le}
 use Rattle.std.proofs.lemmas.List.Sums.{count_by-le-length, sum_by-cons}
 use Rattle.std.proofs.lemmas.List.Concat.{flat_map-append}
-use Rattle.sql_literals.specs.Literal.{escaped_byte, is_special, letter_of, quoted}
-use Rattle.sql_literals.specs.Name.{name_byte, quoted_name}
+use Rattle.sql_cells.specs.Literal.{escaped_byte, is_special, letter_of, text_literal}
+use Rattle.sql_cells.specs.Name.{name_byte, quoted_name}
 use Rattle.sql_literals.specs.Runs.{PlainRun}
 
 pub one_more : (f : ℕ → List ℕ) (xs : List ℕ) (i : ℕ) → i < length xs → flat_map f (take (i + 1) xs) ≡ flat_map f (take i xs) ++ f (get_or xs i 0)
@@ -55,7 +55,7 @@ escaped_length (x ∷ xs) =
     let more : count_by is_special (x ∷ xs) ≡ cond (is_special x) 1 0 + count_by is_special xs = sum_by-cons (λ byte. cond (is_special byte) 1 0) x xs in
     simp length-append (omega (arith, byte_length x, escaped_length xs))
 
-pub quoted_length : (xs : List ℕ) → length (quoted xs) ≡ length xs + count_by is_special xs + 2
+pub quoted_length : (xs : List ℕ) → length (text_literal xs) ≡ length xs + count_by is_special xs + 2
 quoted_length xs = simp length-append (omega (arith, escaped_length xs))
 
 name_byte_length : (b : ℕ) → length (name_byte b) ≡ 1 + cond (b == 96) 1 0
@@ -70,5 +70,5 @@ doubled_length (x ∷ xs) =
 pub quoted_name_length : (xs : List ℕ) → length (quoted_name xs) ≡ length xs + count_by (λ byte. byte == 96) xs + 2
 quoted_name_length xs = simp length-append (omega (arith, doubled_length xs))
 
-pub quoted_bound : (xs : List ℕ) → length (quoted xs) ≤ 2 * length xs + 2
+pub quoted_bound : (xs : List ℕ) → length (text_literal xs) ≤ 2 * length xs + 2
 quoted_bound xs = omega (arith, quoted_length xs, count_by-le-length is_special xs)

@@ -8,7 +8,7 @@ use Rattle.grammar.proofs.Leaves.{fixed_apart, one_apart, one_there, one_none}
 use Rattle.grammar.proofs.Repeats.{apart_many, begins_many}
 use Rattle.grammar.proofs.Rows.{Apart, then_read, then_broken}
 use Rattle.grammar.proofs.Sets.{Starts, Lengthens, apart_by, apart_free, starts_fixed, starts_one, starts_then, starts_many, lengthens_fixed, lengthens_one, lengthens_then, lengthens_before, lengthens_many}
-use Rattle.sql_literals.specs.Spelling.{Pair, OpenedHex, Hex}
+use Rattle.sql_cells.specs.Spelling.{Pair, OpenedHex, Hex}
 
 abbrev IsHexDigit : ℕ → Type 0
 IsHexDigit b = is_hex_digit b ≡ true

@@ -5,9 +5,9 @@ use Rattle.std.specs.Char.{to_ascii_uppercase}
 use Rattle.std.proofs.lemmas.List.{take-append-drop, drop-drop}
 use Rattle.hex.specs.Hex.{encode_with, encode_lower, encode_upper, lower_digits, upper_digits}
 use Rattle.hex.proofs.HexLemmas.{length-encode_with}
-use Rattle.sql_literals.specs.Literal.{hexadecimal}
+use Rattle.sql_cells.specs.Literal.{hex_literal}
 
-pub hexadecimal_length : (xs : List ℕ) → length (hexadecimal xs) ≡ 2 * length xs + 3
+pub hexadecimal_length : (xs : List ℕ) → length (hex_literal xs) ≡ 2 * length xs + 3
 hexadecimal_length xs = simp length-append (omega (arith, length-encode_with upper_digits xs))
 
 pub digits_length : (xs : List ℕ) → length (encode_upper xs) ≡ 2 * length xs

@@ -5,8 +5,8 @@ use Rattle.grammar.proofs.Choices.{place_or, reads_or, reads_or_other, neither}
 use Rattle.grammar.proofs.Empty.{no_empty_fixed, begins_fixed}
 use Rattle.grammar.proofs.Sets.{Starts, Lengthens, starts_fixed, lengthens_fixed, place_other}
 use Rattle.grammar.proofs.Skips.{skips_or, skips_or_other}
-use Rattle.sql_literals.specs.Number.{is_digit, Number}
-use Rattle.sql_literals.specs.Spelling.{Null, Text, Hex, Literal}
+use Rattle.sql_cells.specs.Number.{is_digit, Number}
+use Rattle.sql_cells.specs.Spelling.{Null, Text, Hex, Literal}
 use Rattle.sql_literals.proofs.NumberReads.{IsDigit, IsNumberStart, no_empty_number, begins_number, starts_number}
 use Rattle.sql_literals.proofs.TextReads.{no_empty_text, begins_text, starts_text}
 use Rattle.sql_literals.proofs.HexReads.{no_empty_hex, begins_hex, starts_hex}

@@ -4,14 +4,14 @@ use Rattle.std.specs.List.{prefix_len}
 use Rattle.std.proofs.lemmas.List.Sums.{prefix_len-le-length, prefix_len_passes, prefix_len_stops}
 use Rattle.grammar.specs.Language.{Begins, Reads, Then, Longest, Absent}
 use Rattle.grammar.proofs.Choices.{reads_optional}
-use Rattle.grammar.proofs.Empty.{no_empty_fixed, no_empty_one, no_empty_then, no_empty_behind, begins_one, begins_then, begins_optional}
+use Rattle.grammar.proofs.Empty.{no_empty_fixed, no_empty_one, no_empty_then, no_empty_after, begins_one, begins_then, begins_optional}
 use Rattle.grammar.proofs.Leaves.{fixed_apart, fixed_byte, fixed_other, one_apart, run_some, run_none}
 use Rattle.grammar.proofs.Repeats.{begins_many}
 use Rattle.grammar.proofs.Rows.{Apart, then_broken}
 use Rattle.grammar.proofs.Sets.{Starts, Lengthens, apart_by, starts_fixed, starts_one, starts_then, starts_row, starts_optional, starts_wider, starts_many, lengthens_fixed, lengthens_one, lengthens_then, lengthens_before, lengthens_optional, lengthens_wider, lengthens_many}
 use Rattle.grammar.proofs.Skips.{longest_whole, longest_optional, none_row}
 use Rattle.sql_literals.proofs.Fulls.{Full, none_full, full_then, full_digits}
-use Rattle.sql_literals.specs.Number.{is_digit, Digits, Sign, Point, Fraction, Number}
+use Rattle.sql_cells.specs.Number.{is_digit, Digits, Sign, Point, Fraction, Number}
 
 abbrev pub IsDigit : ℕ → Type 0
 IsDigit b = is_digit b ≡ true
@@ -127,7 +127,7 @@ number_broken s p broken = record {
 
 pub no_empty_number : ¬ Number []
 unfolding Number
-no_empty_number = no_empty_then _ _ (no_empty_behind _ _ no_empty_digits)
+no_empty_number = no_empty_then _ _ (no_empty_after _ _ no_empty_digits)
 
 pub begins_number : Begins Number []
 unfolding Number Sign
@@ -135,7 +135,7 @@ begins_number = begins_then _ _ (begins_then _ _ (begins_optional _) begins_digi
 
 pub starts_number : Starts Number IsNumberStart
 unfolding Number
-starts_number = starts_then _ _ _ (no_empty_behind _ _ no_empty_digits) starts_whole
+starts_number = starts_then _ _ _ (no_empty_after _ _ no_empty_digits) starts_whole
 
 pub lengthens_number : Lengthens Number IsNumberMore
 unfolding Number

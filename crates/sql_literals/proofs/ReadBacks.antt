@@ -9,18 +9,18 @@ use Rattle.hex.proofs.HexLemmas.{IsDigits-upper_digits}
 use Rattle.grammar.specs.Language.{Language, Nothing, Fixed, One, Then, Or, Times, Many, Longest}
 use Rattle.grammar.proofs.Places.{begins_front}
 use Rattle.grammar.proofs.Sets.{Starts, Lengthens}
-use Rattle.sql_literals.specs.Number.{is_digit, Number}
-use Rattle.sql_literals.specs.Literal.{is_special, letter_of, escaped_byte, quoted, hexadecimal}
-use Rattle.sql_literals.specs.Spelling.{is_plain, is_letter, Null, Escape, Inner, Opened, Quoted, Text, Pair, OpenedHex, Hex, Literal, inside, cell_of, EndsThere}
+use Rattle.sql_cells.specs.Number.{is_digit, Number}
+use Rattle.sql_cells.specs.Literal.{is_special, letter_of, escaped_byte, text_literal, hex_literal}
+use Rattle.sql_cells.specs.Spelling.{is_plain, is_letter, Null, Escape, Inner, Opened, Quoted, Text, Pair, OpenedHex, Hex, Literal, inside, cell_of, EndsThere}
 use Rattle.sql_literals.proofs.NumberReads.{no_empty_number, IsDigit, IsNumberStart, IsNumberMore, starts_number, lengthens_number}
 use Rattle.sql_literals.proofs.TextReads.{lengthens_text}
 use Rattle.sql_literals.proofs.HexReads.{lengthens_hex}
 use Rattle.sql_literals.proofs.LiteralReads.{lengthens_null, skips_null, skips_number, skips_text, skips_hex}
 
--- A text is the longest one where no byte behind it lengthens it.
-longest_behind : (L : Language) (P : ℕ → Type 0) (text more : List ℕ) → Lengthens L P → L text → ((c : ℕ) (y : List ℕ) → more ≡ c ∷ y → ¬ P c) → Longest L (text ++ more) (length text)
+-- A text is the longest one where no byte after it lengthens it.
+longest_after : (L : Language) (P : ℕ → Type 0) (text more : List ℕ) → Lengthens L P → L text → ((c : ℕ) (y : List ℕ) → more ≡ c ∷ y → ¬ P c) → Longest L (text ++ more) (length text)
 unfolding Lengthens
-longest_behind L P text more longer is ends = record {
+longest_after L P text more longer is ends = record {
   within = omega (arith, length-append text more);
   text = subst L (sym (take-append_seam text more)) is;
   longer = λ n past fits further. by_more more ends n past fits further;
@@ -72,9 +72,9 @@ unfolding Many Times Nothing
 escaped_inners [] = (0, refl)
 escaped_inners (x ∷ xs) = one_more Inner (escaped_byte x) (flat_map escaped_byte xs) (escaped_inner (is_special x) x refl) (escaped_inners xs)
 
-pub quoted_text : (xs : List ℕ) → Text (quoted xs)
+pub quoted_text : (xs : List ℕ) → Text (text_literal xs)
 unfolding Text Quoted Opened Then Fixed Many Times Nothing
-quoted_text xs = (quoted xs, [], sym (append-nil (quoted xs)), (39 ∷ flat_map escaped_byte xs, 39 ∷ [], refl, (39 ∷ [], flat_map escaped_byte xs, refl, refl, escaped_inners xs), refl), (0, refl))
+quoted_text xs = (text_literal xs, [], sym (append-nil (text_literal xs)), (39 ∷ flat_map escaped_byte xs, 39 ∷ [], refl, (39 ∷ [], flat_map escaped_byte xs, refl, refl, escaped_inners xs), refl), (0, refl))
 
 upper_digit : (d : ℕ) → d < 16 → is_hex_digit (slice_index upper_digits d) ≡ true
 upper_digit d low = ap is_some (IsDigits-upper_digits d low)
@@ -90,7 +90,7 @@ encoded_pairs (x ∷ xs) bytes =
     (high ∷ [], low ∷ [], refl, (high, refl, upper_digit (x / 16) (omega arith)), (low, refl, upper_digit (x % 16) (omega arith)))
     (encoded_pairs xs (λ i. bytes (suc i)))
 
-pub encoded_hex : (xs : List ℕ) → IsBytes xs → Hex (hexadecimal xs)
+pub encoded_hex : (xs : List ℕ) → IsBytes xs → Hex (hex_literal xs)
 unfolding Hex OpenedHex Then Fixed
 encoded_hex xs bytes = (88 ∷ 39 ∷ encode_upper xs, 39 ∷ [], refl, (88 ∷ 39 ∷ [], encode_upper xs, refl, refl, encoded_pairs xs bytes), refl)
 
@@ -113,19 +113,19 @@ number_first x xs number = by_first (starts_number x xs number) where
 
 pub read_null : (more : List ℕ) → Longest Literal (codes "NULL" ++ more) 4
 unfolding Null Fixed
-read_null more = skips_null (codes "NULL" ++ more) (Ok 4) refl (longest_behind Null (λ _. ⊥) (codes "NULL") more (lengthens_null _) refl (λ c y is no. no))
+read_null more = skips_null (codes "NULL" ++ more) (Ok 4) refl (longest_after Null (λ _. ⊥) (codes "NULL") more (lengthens_null _) refl (λ c y is no. no))
 
 pub read_number : (bytes more : List ℕ) → Number bytes → EndsThere more → Longest Literal (bytes ++ more) (length bytes)
 read_number [] more number ends = absurd (no_empty_number number)
 read_number (x ∷ xs) more number ends =
     let first : (x ≢ 78) × (x ≢ 39) × (x ≢ 88) = number_first x xs number in
-    skips_number (x ∷ xs ++ more) (Ok (length (x ∷ xs))) first.0 first.1 first.2 (longest_behind Number IsNumberMore (x ∷ xs) more lengthens_number number (ends_number more ends))
+    skips_number (x ∷ xs ++ more) (Ok (length (x ∷ xs))) first.0 first.1 first.2 (longest_after Number IsNumberMore (x ∷ xs) more lengthens_number number (ends_number more ends))
 
-pub read_quoted : (xs more : List ℕ) → EndsThere more → Longest Literal (quoted xs ++ more) (length (quoted xs))
-read_quoted xs more ends = skips_text (quoted xs ++ more) (Ok (length (quoted xs))) refl (longest_behind Text (λ c. c ≡ 39) (quoted xs) more lengthens_text (quoted_text xs) (ends_text more ends))
+pub read_quoted : (xs more : List ℕ) → EndsThere more → Longest Literal (text_literal xs ++ more) (length (text_literal xs))
+read_quoted xs more ends = skips_text (text_literal xs ++ more) (Ok (length (text_literal xs))) refl (longest_after Text (λ c. c ≡ 39) (text_literal xs) more lengthens_text (quoted_text xs) (ends_text more ends))
 
-pub read_hexadecimal : (xs more : List ℕ) → IsBytes xs → Longest Literal (hexadecimal xs ++ more) (length (hexadecimal xs))
-read_hexadecimal xs more bytes = skips_hex (hexadecimal xs ++ more) (Ok (length (hexadecimal xs))) refl (longest_behind Hex (λ _. ⊥) (hexadecimal xs) more (lengthens_hex _) (encoded_hex xs bytes) (λ c y is no. no))
+pub read_hexadecimal : (xs more : List ℕ) → IsBytes xs → Longest Literal (hex_literal xs ++ more) (length (hex_literal xs))
+read_hexadecimal xs more bytes = skips_hex (hex_literal xs ++ more) (Ok (length (hex_literal xs))) refl (longest_after Hex (λ _. ⊥) (hex_literal xs) more (lengthens_hex _) (encoded_hex xs bytes) (λ c y is no. no))
 
 pub spells_number : (bytes : List ℕ) → Number bytes → Some bytes ≡ cell_of bytes
 spells_number [] number = absurd (no_empty_number number)

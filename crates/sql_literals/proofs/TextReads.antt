@@ -12,9 +12,9 @@ use Rattle.grammar.proofs.Repeats.{apart_many, begins_many}
 use Rattle.grammar.proofs.Rows.{Apart, then_read, then_broken}
 use Rattle.grammar.proofs.Sets.{Starts, Lengthens, apart_by, apart_free, starts_fixed, starts_one, starts_then, starts_either, starts_many, lengthens_fixed, lengthens_one, lengthens_then, lengthens_before, lengthens_or, lengthens_many}
 use Rattle.grammar.proofs.Skips.{none_row, none_broken}
-use Rattle.sql_literals.specs.Literal.{is_special}
+use Rattle.sql_cells.specs.Literal.{is_special}
 use Rattle.sql_literals.specs.Runs.{PlainRun}
-use Rattle.sql_literals.specs.Spelling.{is_plain, is_letter, Escape, Inner, Opened, Quoted, Text}
+use Rattle.sql_cells.specs.Spelling.{is_plain, is_letter, Escape, Inner, Opened, Quoted, Text}
 
 abbrev IsPlain : ℕ → Type 0
 IsPlain b = is_plain b ≡ true

@@ -1,6 +1,6 @@
 -- Runs of bytes that stand for themselves.
 use Rattle.std.specs.Prelude.{ℕ, Bool, ◌≡◌, ◌<◌, ◌≤◌, false, List, length, map, slice_index, if◌then◌else◌}
-use Rattle.sql_literals.specs.Literal.{is_special}
+use Rattle.sql_cells.specs.Literal.{is_special}
 
 -- the bytes from the one place up to the other are there, and none of them is special
 pub record PlainRun (bytes : List ℕ) (from to : ℕ) : Type 0 where

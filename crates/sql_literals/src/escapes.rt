@@ -1,13 +1,12 @@
 // What stands between quotes, as it is read.
 ghost use Rattle.std.specs.Prelude.{◌≡◌, ◌<◌, ◌≤◌, ◌∷◌, length, drop, IfOk};
-ghost use Rattle.sql_literals.specs.Spelling.{letter_value, unescaped};
+ghost use Rattle.sql_cells.specs.Spelling.{letter_value, text_value};
 
-use crate::bytes::Bytes;
 use crate::special::plain_until;
-use plain_data::OutOfMemory;
+use plain_data::{Bytes, OutOfMemory};
 use std::alloc::Global;
 
-// The byte that a letter behind a backslash stands for.
+// The byte that a letter after a backslash stands for.
 #[inline]
 fn letter_value(letter: u8) -> u8
     ensures { result ≡ letter_value letter }
@@ -27,7 +26,7 @@ fn letter_value(letter: u8) -> u8
 #[tactic(auto, using(crate::proofs::Units::last_unit, crate::proofs::Units::escape_unit, crate::proofs::Units::quote_unit, crate::proofs::Units::other_unit))]
 fn first_unit(bytes: &[u8]) -> (u8, usize)
     requires { 0 < length bytes.now }
-    ensures unit { unescaped bytes.now ≡ result.0 ∷ unescaped (drop result.1 bytes.now) }
+    ensures unit { text_value bytes.now ≡ result.0 ∷ text_value (drop result.1 bytes.now) }
     ensures some { 0 < result.1 }
     ensures within { result.1 ≤ length bytes.now }
 {
@@ -47,7 +46,7 @@ fn first_unit(bytes: &[u8]) -> (u8, usize)
 /// one, any other byte for itself. It is refused only for want of memory, which it takes once, for
 /// as many bytes as there are between the quotes.
 pub fn unescape(alloc: Global, inner: &[u8]) -> Result<Bytes, OutOfMemory>
-    ensures { IfOk result (λ made. made ≡ unescaped inner.now) }
+    ensures { IfOk result (λ made. made ≡ text_value inner.now) }
 {
     let mut made = Vec::with_capacity(alloc, inner.len())?;
     let mut done = 0;

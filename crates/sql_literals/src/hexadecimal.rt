@@ -1,10 +1,9 @@
 // Bytes as hexadecimal digits.
 ghost use Rattle.std.specs.Prelude.{◌≡◌, ◌+◌, ◌*◌, ◌≤◌, ◌^◌, ◌++◌, length, IsOk, OnOk, OnErr, MatchOption};
 ghost use Rattle.hex.specs.Hex.{encode_upper};
-ghost use Rattle.sql_literals.specs.Literal.{hexadecimal};
+ghost use Rattle.sql_cells.specs.Literal.{hex_literal};
 
-use crate::buffer::Buffer;
-use plain_data::OutOfMemory;
+use plain_data::{Buffer, OutOfMemory};
 
 // How many bytes are spelled at a time.
 const CHUNK: usize = 64;
@@ -13,7 +12,7 @@ const CHUNK: usize = 64;
 #[tactic(auto, using(crate::proofs::Hexadecimals::hexadecimal_length))]
 pub(crate) fn hexadecimal_length(bytes: &[u8]) -> usize
     requires { length bytes.now ≤ 67108864 }
-    ensures { result ≡ length (hexadecimal bytes.now) }
+    ensures { result ≡ length (hex_literal bytes.now) }
 {
     2 * bytes.len() + 3
 }
@@ -21,7 +20,7 @@ pub(crate) fn hexadecimal_length(bytes: &[u8]) -> usize
 // The same of any bytes, if that many can be counted.
 #[tactic(auto, using(crate::proofs::Hexadecimals::hexadecimal_length))]
 fn any_hexadecimal_length(bytes: &[u8]) -> Option<usize>
-    ensures { MatchOption result (2 ^ 64 ≤ length (hexadecimal bytes.now)) (λ n. n ≡ length (hexadecimal bytes.now)) }
+    ensures { MatchOption result (2 ^ 64 ≤ length (hex_literal bytes.now)) (λ n. n ≡ length (hex_literal bytes.now)) }
 {
     bytes.len().checked_mul(2)?.checked_add(3)
 }
@@ -67,9 +66,9 @@ fn push_digits(bytes: &[u8], out: &mut Buffer)
 // Appends the literal of bytes. Where the room is there it takes no memory.
 #[tactic(auto, using(crate::proofs::Hexadecimals::hexadecimal_length))]
 pub(crate) fn hexadecimal_into(bytes: &[u8], out: &mut Buffer) -> Result<(), OutOfMemory>
-    ensures ok { OnOk result (out.new.bytes ≡ out.old.bytes ++ hexadecimal bytes.now) }
+    ensures ok { OnOk result (out.new.bytes ≡ out.old.bytes ++ hex_literal bytes.now) }
     ensures err { OnErr result (out.new ≡ out.old) }
-    ensures room { length (hexadecimal bytes.now) ≤ out.old.spare → IsOk result × (out.new.spare + length (hexadecimal bytes.now) ≡ out.old.spare) }
+    ensures room { length (hex_literal bytes.now) ≤ out.old.spare → IsOk result × (out.new.spare + length (hex_literal bytes.now) ≡ out.old.spare) }
 {
     let _spare = out.spare();
     let Some(length) = any_hexadecimal_length(bytes) else {

@@ -2,9 +2,6 @@
 //! reserved room, and literals as they are read back.
 #![tactic(auto)]
 
-mod buffer;
-mod bytes;
-mod cell;
 mod escapes;
 mod hexadecimal;
 mod laws;
@@ -15,16 +12,14 @@ mod reading;
 mod special;
 mod text;
 
-pub use buffer::Buffer;
-pub use bytes::{Bytes, Name, NameList, NumberList};
-pub use cell::Cell;
 pub use escapes::unescape;
 pub use laws::{numbers_are_of_the_grammar, what_is_written_is_read_back};
-pub use literal::{CellFault, CellKind, NotANumber, cell_into, cell_length};
+pub use literal::{CellFault, NotANumber, cell_into, cell_length};
 pub use name::{name_into, name_length};
-pub use plain_data::{OutOfMemory, Plain, PlainList};
+pub use plain_data::{Buffer, Bytes, Name, NameList, NumberList, OutOfMemory, Plain, PlainList};
 pub use reading::cell::{LiteralFault, literal_read};
 pub use reading::literal::read_literal;
 pub use reading::skip::literal_skip;
 pub use reading::text::read_text;
+pub use sql_cells::{Cell, CellKind};
 pub use text::text_length_checked;

@@ -1,24 +1,13 @@
 // Literals of cells.
 ghost use Rattle.std.specs.Prelude.{◌≡◌, ◌↔◌, ◌+◌, ◌≤◌, ◌++◌, length, true, false, is_ok, IfSome, IfOk, IsOk, OnOk, OnErr, IsErrOf, option_copied};
-ghost use Rattle.sql_literals.specs.Literal.{literal, has_literal};
+ghost use Rattle.sql_cells.specs.Literal.{literal, has_literal};
 
-use crate::buffer::Buffer;
 use crate::hexadecimal::{hexadecimal_into, hexadecimal_length};
 use crate::number::is_number;
 use crate::text::{text_into, text_length};
-use plain_data::OutOfMemory;
+use plain_data::{Buffer, OutOfMemory};
+use sql_cells::CellKind;
 use thiserror::Error;
-
-/// How a column's cells are written.
-#[derive(Clone, Copy, Debug, PartialEq, Eq)]
-pub enum CellKind {
-    /// As a number, with no quotes.
-    Number,
-    /// As text between single quotes.
-    Text,
-    /// As hexadecimal digits between X' and a quote.
-    Hex,
-}
 
 /// A cell of a numeric column isn't a number.
 #[derive(Clone, Copy, Debug, PartialEq, Eq, Error)]

@@ -1,10 +1,9 @@
 // Quoted names.
 ghost use Rattle.std.specs.Prelude.{◌≡◌, ◌+◌, ◌≤◌, ◌^◌, ◌++◌, length, IsOk, OnOk, OnErr, MatchOption};
 ghost use Rattle.std.specs.List.{flat_map};
-ghost use Rattle.sql_literals.specs.Name.{name_byte, quoted_name};
+ghost use Rattle.sql_cells.specs.Name.{name_byte, quoted_name};
 
-use crate::buffer::Buffer;
-use plain_data::OutOfMemory;
+use plain_data::{Buffer, OutOfMemory};
 
 /// How many bytes [`name_into`] appends, if that many can be counted. Takes no memory.
 #[tactic(auto, using(crate::proofs::Growth::quoted_name_length))]

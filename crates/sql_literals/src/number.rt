@@ -1,7 +1,7 @@
 // Numbers without an exponent.
 ghost use Rattle.std.specs.Prelude.{◌≡◌, ◌≤◌, length, false};
 ghost use Rattle.std.specs.List.{prefix_len};
-ghost use Rattle.sql_literals.specs.Number.{is_digit, is_digits, is_fraction, is_unsigned_behind, is_number};
+ghost use Rattle.sql_cells.specs.Number.{is_digit, is_digits, is_fraction, is_unsigned_after, is_number};
 
 // How many digits stand in front.
 #[inline]
@@ -40,7 +40,7 @@ fn is_fraction(bytes: &[u8]) -> bool
 #[inline]
 #[tactic(auto, using(crate::proofs::Numbers::unsigned_with, crate::proofs::Numbers::unsigned_without))]
 fn is_unsigned(bytes: &[u8]) -> bool
-    ensures { result ≡ is_unsigned_behind false bytes.now }
+    ensures { result ≡ is_unsigned_after false bytes.now }
 {
     let whole = digit_count(bytes);
     whole > 0 && is_fraction(&bytes[whole..])

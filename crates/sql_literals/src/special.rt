@@ -1,6 +1,6 @@
-// Special bytes, which a text literal writes behind a backslash, and the runs between them.
+// Special bytes, which a text literal writes after a backslash, and the runs between them.
 ghost use Rattle.std.specs.Prelude.{◌≡◌, ◌+◌, ◌≤◌, ◌==◌, length, map, bit_or, count_by, take, drop};
-ghost use Rattle.sql_literals.specs.Literal.{is_special, letter_of};
+ghost use Rattle.sql_cells.specs.Literal.{is_special, letter_of};
 ghost use Rattle.sql_literals.specs.Runs.{PlainRun, marks};
 ghost use lib.Lanes.{mask_l, zip2};
 

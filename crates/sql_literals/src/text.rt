@@ -1,17 +1,16 @@
 // Text between single quotes.
 ghost use Rattle.std.specs.Prelude.{◌≡◌, ◌+◌, ◌≤◌, ◌^◌, ◌++◌, length, IsOk, OnOk, OnErr, MatchOption};
 ghost use Rattle.std.specs.List.{flat_map};
-ghost use Rattle.sql_literals.specs.Literal.{escaped_byte, quoted};
+ghost use Rattle.sql_cells.specs.Literal.{escaped_byte, text_literal};
 
-use crate::buffer::Buffer;
 use crate::special::{is_special, letter_of, plain_until, special_count};
-use plain_data::OutOfMemory;
+use plain_data::{Buffer, OutOfMemory};
 
 // How many bytes the literal of a text of at most 64 MiB has.
 #[tactic(auto, using(crate::proofs::Growth::quoted_length))]
 pub(crate) fn text_length(bytes: &[u8]) -> usize
     requires { length bytes.now ≤ 67108864 }
-    ensures { result ≡ length (quoted bytes.now) }
+    ensures { result ≡ length (text_literal bytes.now) }
 {
     bytes.len() + special_count(bytes) + 2
 }
@@ -20,7 +19,7 @@ pub(crate) fn text_length(bytes: &[u8]) -> usize
 /// counted. Takes no memory.
 #[tactic(auto, using(crate::proofs::Growth::quoted_length))]
 pub fn text_length_checked(bytes: &[u8]) -> Option<usize>
-    ensures { MatchOption result (2 ^ 64 ≤ length (quoted bytes.now)) (λ n. n ≡ length (quoted bytes.now)) }
+    ensures { MatchOption result (2 ^ 64 ≤ length (text_literal bytes.now)) (λ n. n ≡ length (text_literal bytes.now)) }
 {
     bytes
         .len()
@@ -66,9 +65,9 @@ fn push_escaped(bytes: &[u8], out: &mut Buffer)
 #[tactic(auto, using(crate::proofs::Growth::quoted_bound))]
 fn reserve_text(bytes: &[u8], out: &mut Buffer) -> Result<(), OutOfMemory>
     ensures bytes { out.new.bytes ≡ out.old.bytes }
-    ensures ok { OnOk result (length (quoted bytes.now) ≤ out.new.spare) }
+    ensures ok { OnOk result (length (text_literal bytes.now) ≤ out.new.spare) }
     ensures err { OnErr result (out.new ≡ out.old) }
-    ensures room { length (quoted bytes.now) ≤ out.old.spare → IsOk result × (out.new ≡ out.old) }
+    ensures room { length (text_literal bytes.now) ≤ out.old.spare → IsOk result × (out.new ≡ out.old) }
 {
     let spare = out.spare();
     if spare >= 2 && bytes.len() <= (spare - 2) / 2 {
@@ -83,9 +82,9 @@ fn reserve_text(bytes: &[u8], out: &mut Buffer) -> Result<(), OutOfMemory>
 // Appends a text's literal. Where the room is there it takes no memory.
 #[inline]
 pub(crate) fn text_into(bytes: &[u8], out: &mut Buffer) -> Result<(), OutOfMemory>
-    ensures ok { OnOk result (out.new.bytes ≡ out.old.bytes ++ quoted bytes.now) }
+    ensures ok { OnOk result (out.new.bytes ≡ out.old.bytes ++ text_literal bytes.now) }
     ensures err { OnErr result (out.new ≡ out.old) }
-    ensures room { length (quoted bytes.now) ≤ out.old.spare → IsOk result × (out.new.spare + length (quoted bytes.now) ≡ out.old.spare) }
+    ensures room { length (text_literal bytes.now) ≤ out.old.spare → IsOk result × (out.new.spare + length (text_literal bytes.now) ≡ out.old.spare) }
 {
     reserve_text(bytes, out)?;
     out.push_byte(b'\'');

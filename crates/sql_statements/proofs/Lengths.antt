@@ -3,9 +3,9 @@ use Rattle.std.proofs.Common.{◌≡◌, subst, sym, ap, ◌∙◌, ℕ, ◌+◌
 use Rattle.std.specs.List.{flat_map, fold}
 use Rattle.std.proofs.lemmas.List.{append-nil}
 use Rattle.std.proofs.lemmas.List.Folds.{length-flat_map-take}
-use Rattle.sql_literals.specs.Name.{quoted_name}
+use Rattle.sql_cells.specs.Name.{quoted_name}
 use Rattle.sql_statements.specs.Piece.{piece_text, pieces_text, later_name}
-use Rattle.sql_statements.specs.Text.{names}
+use Rattle.statement_forms.specs.Text.{names}
 use Rattle.sql_statements.specs.declared.piece.Piece.{Piece}
 
 -- some names at the front and the next one are no longer than all
@@ -18,7 +18,7 @@ pub pieces_fit : (pieces : List Piece) (i : ℕ) (piece : Piece) → piece ≡ g
 pieces_fit pieces i piece is within =
     subst (λ (p : Piece). length (flat_map piece_text (take i pieces)) + length (piece_text p) ≤ length (flat_map piece_text pieces)) (sym is) (length-flat_map-take piece_text pieces i piece within)
 
--- names with commas between them are the first one and each later one behind a comma
+-- names with commas between them are the first one and each later one after a comma
 first_and_later : (name : List ℕ) (later : List (List ℕ)) → names (name ∷ later) ≡ quoted_name name ++ flat_map later_name later
 first_and_later name [] = sym (append-nil (quoted_name name))
 first_and_later name (next ∷ later) = ap (λ t. quoted_name name ++ 44 ∷ t) (first_and_later next later)
@@ -29,9 +29,9 @@ names_is all later name is = ap (λ (a : List (List ℕ)). names a) is ∙ first
 pub names_length_is : (all later : List (List ℕ)) (name : List ℕ) → all ≡ name ∷ later → length (names all) ≡ length (quoted_name name) + length (flat_map later_name later)
 names_length_is all later name is = ap length (names_is all later name is) ∙ length-append (quoted_name name) (flat_map later_name later)
 
-joined_behind : (front : List ℕ) (pieces : List Piece) → fold (λ text piece. text ++ piece_text piece) front pieces ≡ front ++ flat_map piece_text pieces
-joined_behind front [] = sym (append-nil front)
-joined_behind front (piece ∷ pieces) = joined_behind (front ++ piece_text piece) pieces ∙ append_assoc front (piece_text piece) (flat_map piece_text pieces)
+joined_after : (front : List ℕ) (pieces : List Piece) → fold (λ text piece. text ++ piece_text piece) front pieces ≡ front ++ flat_map piece_text pieces
+joined_after front [] = sym (append-nil front)
+joined_after front (piece ∷ pieces) = joined_after (front ++ piece_text piece) pieces ∙ append_assoc front (piece_text piece) (flat_map piece_text pieces)
 
 pub pieces_text_is : (pieces : List Piece) → pieces_text pieces ≡ flat_map piece_text pieces
-pieces_text_is pieces = joined_behind [] pieces
+pieces_text_is pieces = joined_after [] pieces

@@ -2,26 +2,26 @@
 use Rattle.std.specs.Prelude.{ℕ, List, [], ◌∷◌, ◌++◌}
 use Rattle.std.specs.Fmt.{signed_decimal}
 use Rattle.std.specs.List.{fold}
-use Rattle.sql_literals.specs.Literal.{quoted}
-use Rattle.sql_literals.specs.Name.{quoted_name}
-use Rattle.sql_statements.specs.Text.{by_key, dotted, key_above, key_from, one_behind, rows_from}
+use Rattle.sql_cells.specs.Literal.{text_literal}
+use Rattle.sql_cells.specs.Name.{quoted_name}
+use Rattle.statement_forms.specs.Text.{by_key, dotted, key_above, key_from, one_after, rows_from}
 use Rattle.sql_statements.specs.declared.piece.Piece.{Piece}
-use Rattle.sql_statements.specs.declared.piece.Piece.TheVariants.{Word, Whole, Name, Path, Text, Signed, RowsFrom, KeyFrom, Above, ByKey, OneBehind}
+use Rattle.sql_statements.specs.declared.piece.Piece.TheVariants.{Word, Whole, Name, Path, Text, Signed, RowsFrom, KeyFrom, Above, ByKey, OneAfter}
 
 abbrev pub piece_text : Piece → List ℕ
 piece_text (Word bytes) = bytes.now
 piece_text (Whole text) = text.now
 piece_text (Name part) = quoted_name part.now
 piece_text (Path schema name) = dotted schema.now name.now
-piece_text (Text part) = quoted part.now
+piece_text (Text part) = text_literal part.now
 piece_text (Signed number) = signed_decimal number.now
 piece_text (RowsFrom columns schema table) = rows_from columns.now schema.now table.now
 piece_text (KeyFrom key schema table) = key_from key.now schema.now table.now
 piece_text (Above key bound) = key_above key.now bound.now
 piece_text (ByKey key) = by_key key.now
-piece_text (OneBehind skipped) = one_behind skipped
+piece_text (OneAfter skipped) = one_after skipped
 
--- the pieces one behind the other
+-- the pieces one after the other
 abbrev pub pieces_text : List Piece → List ℕ
 pieces_text pieces = fold (λ text piece. text ++ piece_text piece) [] pieces
 

@@ -1,13 +1,13 @@
 // How commands are written.
 ghost use Rattle.std.specs.Prelude.{◌≡◌, ◌+◌, ◌≤◌, ◌++◌, length, IsOk, OnOk, OnErr};
 ghost use Rattle.sql_statements.specs.Piece.{pieces_text};
-ghost use Rattle.sql_statements.specs.Statement.{CommandHasText};
-ghost use Rattle.sql_statements.specs.Text.{command_text};
+ghost use Rattle.statement_forms.specs.Statement.{CommandHasText};
+ghost use Rattle.statement_forms.specs.Text.{command_text};
 
-use crate::command::Command;
 use crate::piece::Piece::{Name, Text, Whole, Word};
 use crate::piece::{Piece, pieces_into};
-use sql_literals::{Buffer, OutOfMemory};
+use plain_data::{Buffer, OutOfMemory};
+use statement_forms::Command;
 
 // Nothing, where a text has fewer pieces.
 const END: Piece<'static> = Word(b"");

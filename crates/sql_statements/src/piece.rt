@@ -2,16 +2,16 @@
 ghost use Rattle.std.specs.Prelude.{◌≡◌, ◌+◌, ◌≤◌, ◌^◌, ◌++◌, length, decimal, IsOk, OnOk, OnErr, MatchOption};
 ghost use Rattle.std.specs.Fmt.{signed_decimal};
 ghost use Rattle.std.specs.List.{flat_map};
-ghost use Rattle.sql_literals.specs.Literal.{quoted};
-ghost use Rattle.sql_literals.specs.Name.{quoted_name};
+ghost use Rattle.sql_cells.specs.Literal.{text_literal};
+ghost use Rattle.sql_cells.specs.Name.{quoted_name};
 ghost use Rattle.sql_statements.specs.Piece.{piece_text, pieces_text, later_name};
-ghost use Rattle.sql_statements.specs.Text.{by_key, dotted, key_above, key_from, names, one_behind, rows_from};
+ghost use Rattle.statement_forms.specs.Text.{by_key, dotted, key_above, key_from, names, one_after, rows_from};
 
-use crate::part::{Part, PartList, WholeText};
 use itoa::Buffer as Digits;
-use sql_literals::{
-    Buffer, CellKind, OutOfMemory, cell_into, name_into, name_length, text_length_checked,
-};
+use plain_data::{Buffer, OutOfMemory};
+use sql_cells::CellKind;
+use sql_literals::{cell_into, name_into, name_length, text_length_checked};
+use statement_forms::{Part, PartList, WholeText};
 
 // The words between the names of queries.
 const SELECT: &[u8] = b"SELECT ";
@@ -51,11 +51,11 @@ pub(crate) enum Piece<'a> {
     Above(&'a Part<'a>, &'a i128),
     // The order of a key.
     ByKey(&'a Part<'a>),
-    // The limit to one row behind so many others.
-    OneBehind(u64),
+    // The limit to one row after so many others.
+    OneAfter(u64),
 }
 
-// How many bytes the names behind the first have, each behind a comma.
+// How many bytes the names after the first have, each after a comma.
 #[tactic(auto, using(crate::proofs::Lengths::later_names_fit))]
 fn later_names_length(names: &[Part<'_>]) -> Option<usize>
     ensures { MatchOption result (2 ^ 64 ≤ length (flat_map later_name names.now)) (λ n. n ≡ length (flat_map later_name names.now)) }
@@ -122,8 +122,8 @@ fn by_key_length(key: &[u8]) -> Option<usize>
     name_length(key)?.checked_add(ORDER_BY.len())
 }
 
-fn one_behind_length(skipped: u64) -> usize
-    ensures { result ≡ length (one_behind skipped) }
+fn one_after_length(skipped: u64) -> usize
+    ensures { result ≡ length (one_after skipped) }
 {
     LIMIT.len() + Digits::new().format(skipped).len() + ONE.len()
 }
@@ -147,7 +147,7 @@ fn piece_length(piece: &Piece<'_>) -> Option<usize>
         }
         Piece::Above(key, bound) => above_length(key.bytes(), **bound),
         Piece::ByKey(key) => by_key_length(key.bytes()),
-        Piece::OneBehind(skipped) => Some(one_behind_length(*skipped)),
+        Piece::OneAfter(skipped) => Some(one_after_length(*skipped)),
     }
 }
 
@@ -172,7 +172,7 @@ fn push_name(name: &[u8], out: &mut Buffer)
     let _ = name_into(name, out);
 }
 
-// Appends a name behind a comma.
+// Appends a name after a comma.
 fn push_later_name(name: &[u8], out: &mut Buffer)
     requires { length (later_name name.now) ≤ out.old.spare }
     ensures bytes { out.new.bytes ≡ out.old.bytes ++ later_name name.now }
@@ -182,7 +182,7 @@ fn push_later_name(name: &[u8], out: &mut Buffer)
     push_name(name, out);
 }
 
-// Appends names, each behind a comma.
+// Appends names, each after a comma.
 #[tactic(auto, using(crate::proofs::Lengths::later_names_fit))]
 fn push_later_names(names: &[Part<'_>], out: &mut Buffer)
     requires { length (flat_map later_name names.now) ≤ out.old.spare }
@@ -219,9 +219,9 @@ fn push_path(schema: &[u8], name: &[u8], out: &mut Buffer)
 
 // Appends a text between single quotes.
 fn push_text(text: &[u8], out: &mut Buffer)
-    requires { length (quoted text.now) ≤ out.old.spare }
-    ensures bytes { out.new.bytes ≡ out.old.bytes ++ quoted text.now }
-    ensures spare { out.new.spare + length (quoted text.now) ≡ out.old.spare }
+    requires { length (text_literal text.now) ≤ out.old.spare }
+    ensures bytes { out.new.bytes ≡ out.old.bytes ++ text_literal text.now }
+    ensures spare { out.new.spare + length (text_literal text.now) ≡ out.old.spare }
 {
     let _ = cell_into(CellKind::Text, Some(text), out);
 }
@@ -276,10 +276,10 @@ fn push_by_key(key: &[u8], out: &mut Buffer)
     push_name(key, out);
 }
 
-fn push_one_behind(skipped: u64, out: &mut Buffer)
-    requires { length (one_behind skipped) ≤ out.old.spare }
-    ensures bytes { out.new.bytes ≡ out.old.bytes ++ one_behind skipped }
-    ensures spare { out.new.spare + length (one_behind skipped) ≡ out.old.spare }
+fn push_one_after(skipped: u64, out: &mut Buffer)
+    requires { length (one_after skipped) ≤ out.old.spare }
+    ensures bytes { out.new.bytes ≡ out.old.bytes ++ one_after skipped }
+    ensures spare { out.new.spare + length (one_after skipped) ≡ out.old.spare }
 {
     out.push(LIMIT);
     out.push(Digits::new().format(skipped).as_bytes());
@@ -307,7 +307,7 @@ fn push_piece(piece: &Piece<'_>, out: &mut Buffer)
         }
         Piece::Above(key, bound) => push_above(key.bytes(), **bound, out),
         Piece::ByKey(key) => push_by_key(key.bytes(), out),
-        Piece::OneBehind(skipped) => push_one_behind(*skipped, out),
+        Piece::OneAfter(skipped) => push_one_after(*skipped, out),
     }
 }
 
@@ -323,7 +323,7 @@ fn push_pieces(pieces: &[Piece<'_>], out: &mut Buffer)
     }
 }
 
-// Appends the pieces one behind the other. It is refused only for want of memory, and leaves the
+// Appends the pieces one after the other. It is refused only for want of memory, and leaves the
 // buffer as it was then. Where the room is there it takes no memory.
 #[tactic(auto, using(crate::proofs::Lengths::pieces_text_is))]
 pub(crate) fn pieces_into(pieces: &[Piece<'_>], out: &mut Buffer) -> Result<(), OutOfMemory>

@@ -1,15 +1,15 @@
 // How queries are written.
 ghost use Rattle.std.specs.Prelude.{◌≡◌, ◌+◌, ◌≤◌, ◌++◌, length, IsOk, OnOk, OnErr};
 ghost use Rattle.sql_statements.specs.Piece.{pieces_text};
-ghost use Rattle.sql_statements.specs.Statement.{QueryHasText};
-ghost use Rattle.sql_statements.specs.Text.{query_text};
+ghost use Rattle.statement_forms.specs.Statement.{QueryHasText};
+ghost use Rattle.statement_forms.specs.Text.{query_text};
 
 use crate::piece::Piece::{
-    Above, ByKey, KeyFrom, Name, OneBehind, Path, RowsFrom, Signed, Text, Word,
+    Above, ByKey, KeyFrom, Name, OneAfter, Path, RowsFrom, Signed, Text, Word,
 };
 use crate::piece::{Piece, pieces_into};
-use crate::query::Query;
-use sql_literals::{Buffer, OutOfMemory};
+use plain_data::{Buffer, OutOfMemory};
+use statement_forms::Query;
 
 const AT_MOST: &[u8] = b" <= ";
 
@@ -157,7 +157,7 @@ fn query_pieces<'a>(query: &'a Query<'_>) -> [Piece<'a>; 7]
         } => [
             KeyFrom(key, schema, table),
             ByKey(key),
-            OneBehind(*skipped),
+            OneAfter(*skipped),
             END,
             END,
             END,
@@ -173,7 +173,7 @@ fn query_pieces<'a>(query: &'a Query<'_>) -> [Piece<'a>; 7]
             KeyFrom(key, schema, table),
             Above(key, above),
             ByKey(key),
-            OneBehind(*skipped),
+            OneAfter(*skipped),
             END,
             END,
             END,

@@ -1,9 +1,10 @@
 // Names and literals, as they are written and read, and the buffer that they are written into.
 use crate::words::{bytes_of, plain, push_bytes, words_of};
-use plain_data::OutOfMemory;
+use plain_data::{Buffer, Name, NameList, OutOfMemory};
+use sql_cells::{Cell, CellKind};
 use sql_literals::{
-    Buffer, Cell, CellKind, Name, NameList, NotANumber, cell_into, cell_length, literal_read,
-    literal_skip, name_into, name_length, read_literal, read_text, text_length_checked, unescape,
+    NotANumber, cell_into, cell_length, literal_read, literal_skip, name_into, name_length,
+    read_literal, read_text, text_length_checked, unescape,
 };
 use std::alloc::Global;
 
@@ -35,7 +36,7 @@ fn named(alloc: Global, rest: &str) -> Result<String, OutOfMemory> {
     Ok(format!(in alloc; "{quoted} in {size} bytes")?)
 }
 
-// The names, each with a semicolon behind it.
+// The names, each with a semicolon after it.
 fn names_words(alloc: Global, names: &[Name]) -> Result<String, OutOfMemory> {
     let mut words = String::new(alloc);
     for name in names {
@@ -92,7 +93,7 @@ fn buffered(alloc: Global, rest: &str) -> Result<String, OutOfMemory> {
     )?)
 }
 
-// Room for so many bytes behind four.
+// Room for so many bytes after four.
 fn reserved(alloc: Global, rest: &str) -> Result<String, OutOfMemory> {
     let more: usize = rest.parse().unwrap_or(0);
     let mut out = Buffer::new(alloc);
@@ -107,7 +108,7 @@ fn reserved(alloc: Global, rest: &str) -> Result<String, OutOfMemory> {
     out.push_byte(b';');
     let used = spare.saturating_sub(out.spare());
     let words = words_of(alloc, out.as_slice())?;
-    Ok(format!(in alloc; "room behind {words}, of which {used} is used")?)
+    Ok(format!(in alloc; "room after {words}, of which {used} is used")?)
 }
 
 fn kind_of(word: &str) -> CellKind {
@@ -118,7 +119,7 @@ fn kind_of(word: &str) -> CellKind {
     }
 }
 
-// The literal of a cell behind a comma, its length, and whether it is read back.
+// The literal of a cell after a comma, its length, and whether it is read back.
 fn literal_words(
     alloc: Global,
     kind: CellKind,
@@ -126,11 +127,11 @@ fn literal_words(
 ) -> Result<String, OutOfMemory> {
     let mut out = Buffer::new(alloc);
     name_into(b"", &mut out)?;
-    let behind = out.len();
+    let after = out.len();
     if let Err(fault) = cell_into(kind, cell, &mut out) {
         return Ok(format!(in alloc; "{fault}, {} bytes left", out.len())?);
     }
-    let literal = out.as_slice().get(behind..).unwrap_or(b"");
+    let literal = out.as_slice().get(after..).unwrap_or(b"");
     let words = words_of(alloc, literal)?;
     let is_same = match literal_read(alloc, literal) {
         Ok((read, size)) => read.as_slice() == cell && size == literal.len(),

@@ -1,6 +1,7 @@
 // Texts as SHOW CREATE gives them: their heads, and a table's shape and counter.
 use crate::words::{bytes_of, plain, push_bytes, words_of};
-use object_texts::{Column, Kind, Shape, check_head, counter_of, head_of, shape_of, trigger_table};
+use object_forms::{Column, Kind, Shape};
+use object_texts::{check_head, counter_of, head_of, shape_of, trigger_table};
 use plain_data::OutOfMemory;
 use std::alloc::Global;
 

@@ -1,8 +1,8 @@
 // Statements that are read and written again, their variable parts, and the INSERTs of data files.
 use crate::words::{bytes_of, plain, push_bytes, words_of};
-use plain_data::OutOfMemory;
-use sql_literals::{Buffer, Bytes};
-use sql_statements::{Command, Part, PartList, Statement, command_into, query_into};
+use plain_data::{Buffer, Bytes, OutOfMemory};
+use sql_statements::{command_into, query_into};
+use statement_forms::{Command, Part, PartList, Statement};
 use statement_reading::{insert_check, statement_read};
 use std::alloc::Global;
 

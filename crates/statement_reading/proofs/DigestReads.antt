@@ -10,7 +10,7 @@ use Rattle.grammar.proofs.Repeats.{begins_times}
 use Rattle.grammar.proofs.Rows.{Apart}
 use Rattle.grammar.proofs.Sets.{Lengthens, lengthens_one, lengthens_times}
 use Rattle.statement_reading.specs.Parts.{DigestText}
-use Rattle.sql_statements.specs.Statement.{is_lower_digit}
+use Rattle.statement_forms.specs.Statement.{is_lower_digit}
 
 pub nothing_begun : Begins Nothing []
 unfolding Begins Nothing

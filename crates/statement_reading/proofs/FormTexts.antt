@@ -1,13 +1,13 @@
 -- The forms that several statements have.
 use Rattle.std.proofs.Common.{◌≡◌, ℕ, List, [], ◌∷◌, ◌++◌, get_or, refl, sym, ◌∙◌, ap, subst, arith, append_assoc, append-nil, codes}
 use Rattle.grammar.specs.Language.{Language, Fixed, Refused}
-use Rattle.sql_literals.specs.Literal.{quoted}
-use Rattle.sql_literals.specs.Name.{quoted_name}
+use Rattle.sql_cells.specs.Literal.{text_literal}
+use Rattle.sql_cells.specs.Name.{quoted_name}
 use Rattle.statement_reading.specs.Readings.{TextOfSome, IsOnly}
 use Rattle.statement_reading.specs.Slots.{HasParts, Place}
 use Rattle.statement_reading.specs.Slots.Place.{word, part}
-use Rattle.sql_statements.specs.Statement.{IsDigest}
-use Rattle.sql_statements.specs.Text.{dotted}
+use Rattle.statement_forms.specs.Statement.{IsDigest}
+use Rattle.statement_forms.specs.Text.{dotted}
 use Rattle.statement_reading.specs.declared.reading.values.Path.{Path}
 use Rattle.statement_reading.specs.declared.reading.kind.PartKind.TheVariants.{Name, TextLiteral, Digest}
 use Rattle.statement_reading.proofs.Forms.{Form, part_is, form_entries, refused_same}
@@ -46,12 +46,12 @@ text_slots w tail = word w ∷ part TextLiteral ∷ word tail ∷ []
 three : (x y z : List ℕ) → x ++ y ++ z ≡ x ++ (y ++ (z ++ []))
 three x y z = simp (append_assoc, append-nil)
 
-pub text_form_is : (w tail : List ℕ) → Form (text_slots w tail) (λ (v : List ℕ) t. t ≡ w ++ quoted v ++ tail) (λ v. Unit {0}) (λ v. quoted v ∷ [])
+pub text_form_is : (w tail : List ℕ) → Form (text_slots w tail) (λ (v : List ℕ) t. t ≡ w ++ text_literal v ++ tail) (λ v. Unit {0}) (λ v. text_literal v ∷ [])
 text_form_is w tail = record {
   clear = refl;
-  to = λ v t is. subst (HasParts (text_slots w tail) [] (quoted v ∷ [])) (sym (is ∙ three w (quoted v) tail)) (has_spelled (text_slots w tail) [] (quoted v ∷ []) 0 refl (text_text v, tt) refl refl);
+  to = λ v t is. subst (HasParts (text_slots w tail) [] (text_literal v ∷ [])) (sym (is ∙ three w (text_literal v) tail)) (has_spelled (text_slots w tail) [] (text_literal v ∷ []) 0 refl (text_text v, tt) refl refl);
   good = λ v t is. tt;
-  from = λ v t good has. spelled_is (text_slots w tail) [] (quoted v ∷ []) t has ∙ sym (three w (quoted v) tail);
+  from = λ v t good has. spelled_is (text_slots w tail) [] (text_literal v ∷ []) t has ∙ sym (three w (text_literal v) tail);
   some = λ parts t has.
       let (v, is) = text_of (get_or parts 0 []) (part_is (text_slots w tail) [] parts t 0 has (omega arith)) in
       (v, tt, ap (λ x. x ∷ []) (sym is) ∙ form_entries (text_slots w tail) parts t has);
@@ -66,13 +66,13 @@ texts_slots w middle tail = word w ∷ part TextLiteral ∷ word middle ∷ part
 five : (v w x y z : List ℕ) → v ++ w ++ x ++ y ++ z ≡ v ++ (w ++ (x ++ (y ++ (z ++ []))))
 five v w x y z = simp (append_assoc, append-nil)
 
-pub texts_form_is : (w middle tail : List ℕ) → Form (texts_slots w middle tail) (λ (v : Path) t. t ≡ w ++ quoted v.schema ++ middle ++ quoted v.name ++ tail) (λ v. Unit {0}) (λ v. quoted v.schema ∷ quoted v.name ∷ [])
+pub texts_form_is : (w middle tail : List ℕ) → Form (texts_slots w middle tail) (λ (v : Path) t. t ≡ w ++ text_literal v.schema ++ middle ++ text_literal v.name ++ tail) (λ v. Unit {0}) (λ v. text_literal v.schema ∷ text_literal v.name ∷ [])
 texts_form_is w middle tail = record {
   clear = refl;
-  to = λ v t is. subst (HasParts (texts_slots w middle tail) [] (quoted v.schema ∷ quoted v.name ∷ [])) (sym (is ∙ five w (quoted v.schema) middle (quoted v.name) tail))
-      (has_spelled (texts_slots w middle tail) [] (quoted v.schema ∷ quoted v.name ∷ []) 0 refl (text_text v.schema, (text_text v.name, tt)) refl refl);
+  to = λ v t is. subst (HasParts (texts_slots w middle tail) [] (text_literal v.schema ∷ text_literal v.name ∷ [])) (sym (is ∙ five w (text_literal v.schema) middle (text_literal v.name) tail))
+      (has_spelled (texts_slots w middle tail) [] (text_literal v.schema ∷ text_literal v.name ∷ []) 0 refl (text_text v.schema, (text_text v.name, tt)) refl refl);
   good = λ v t is. tt;
-  from = λ v t good has. spelled_is (texts_slots w middle tail) [] (quoted v.schema ∷ quoted v.name ∷ []) t has ∙ sym (five w (quoted v.schema) middle (quoted v.name) tail);
+  from = λ v t good has. spelled_is (texts_slots w middle tail) [] (text_literal v.schema ∷ text_literal v.name ∷ []) t has ∙ sym (five w (text_literal v.schema) middle (text_literal v.name) tail);
   some = λ parts t has.
       let (a, is) = text_of (get_or parts 0 []) (part_is (texts_slots w middle tail) [] parts t 0 has (omega arith)) in
       let (b, be) = text_of (get_or parts 1 []) (part_is (texts_slots w middle tail) [] parts t 1 has (omega arith)) in
@@ -95,7 +95,7 @@ digest_form_is w tail = record {
   single = λ u v gu gv e. cc;
 }
 
--- a name behind a word
+-- a name after a word
 
 abbrev pub name_slots : List ℕ → List Place
 name_slots w = word w ∷ part Name ∷ []
@@ -115,7 +115,7 @@ name_form_is w = record {
   single = λ u v gu gv e. one_name u v (cc);
 }
 
--- a schema, a dot and a name behind a word
+-- a schema, a dot and a name after a word
 
 abbrev pub path_slots : List ℕ → List Place
 path_slots w = word w ∷ part Name ∷ word (codes ".") ∷ part Name ∷ []

@@ -85,15 +85,15 @@ abbrev pub entries : ℕ → ℕ → List (List ℕ) → List (List ℕ)
 entries k zero l = []
 entries k (suc n) l = get_or l k [] ∷ entries (suc k) n l
 
-entries_behind : (c : List ℕ) (l : List (List ℕ)) (k n : ℕ) → entries (suc k) n (c ∷ l) ≡ entries k n l
-entries_behind c l k zero = refl
-entries_behind c l k (suc n) = ap (λ r. get_or l k [] ∷ r) (entries_behind c l (suc k) n)
+entries_after : (c : List ℕ) (l : List (List ℕ)) (k n : ℕ) → entries (suc k) n (c ∷ l) ≡ entries k n l
+entries_after c l k zero = refl
+entries_after c l k (suc n) = ap (λ r. get_or l k [] ∷ r) (entries_after c l (suc k) n)
 
 all_entries : (n : ℕ) (l : List (List ℕ)) → length l ≡ n → entries 0 n l ≡ l
 all_entries zero [] size = refl
 all_entries zero (c ∷ l) size = absurd (omega arith)
 all_entries (suc n) [] size = absurd (omega arith)
-all_entries (suc n) (c ∷ l) size = ap (λ r. c ∷ r) (entries_behind c l 0 n ∙ all_entries n l (omega arith))
+all_entries (suc n) (c ∷ l) size = ap (λ r. c ∷ r) (entries_after c l 0 n ∙ all_entries n l (omega arith))
 
 -- The parts are their entries.
 pub form_entries : (slots : List Place) (parts : List (List ℕ)) (t : List ℕ) → HasParts slots [] parts t → entries 0 (length (kinds slots)) parts ≡ parts

@@ -5,7 +5,7 @@ use Rattle.std.proofs.lemmas.List.{take-append-drop, length-take-le, take_all, d
 use Rattle.grammar.specs.Language.{Language, Begins, Reads, Refused, Nothing, Fixed, Then, Next, Times, Many}
 use Rattle.grammar.specs.Reading.{shift}
 use Rattle.grammar.proofs.Choices.{neither, reads_same}
-use Rattle.grammar.proofs.Empty.{no_empty_fixed, no_empty_then, no_empty_behind, begins_fixed, begins_then, begins_or, begins_next}
+use Rattle.grammar.proofs.Empty.{no_empty_fixed, no_empty_then, no_empty_after, begins_fixed, begins_then, begins_or, begins_next}
 use Rattle.grammar.proofs.Leaves.{fixed_apart}
 use Rattle.grammar.proofs.Onward.{Onward, onward_start, onward_same, onward_then, onward_broken, onward_next, onward_next_broken, onward_last, onward_answer, onward_counted, onward_counted_broken, onward_none}
 use Rattle.grammar.proofs.Places.{rest_of}
@@ -13,14 +13,14 @@ use Rattle.grammar.proofs.Repeats.{apart_many, begins_many, begins_times, many_o
 use Rattle.grammar.proofs.Rows.{Apart, NextApart, then_broken}
 use Rattle.grammar.proofs.Sets.{Starts, Lengthens, apart_by, apart_free, next_apart_by, starts_fixed, starts_then, starts_row, starts_either, starts_times, starts_wider, lengthens_wider, lengthens_fixed, lengthens_then, lengthens_or, lengthens_times}
 use Rattle.grammar.proofs.Wholes.{refused_broken, refused_row}
-use Rattle.sql_literals.specs.Name.{quoted_name, name_byte}
-use Rattle.sql_literals.specs.Number.{is_digit}
-use Rattle.sql_literals.specs.Spelling.{Null, Literal}
+use Rattle.sql_cells.specs.Name.{quoted_name, name_byte}
+use Rattle.sql_cells.specs.Number.{is_digit}
+use Rattle.sql_cells.specs.Spelling.{Null, Literal}
 use Rattle.sql_literals.proofs.LiteralReads.{no_empty_null, lengthens_null}
 use Rattle.sql_literals.proofs.NumberReads.{IsDigit, IsNumberStart, IsNumberMore, no_empty_number, starts_number, lengthens_number}
 use Rattle.sql_literals.proofs.TextReads.{no_empty_text, starts_text, lengthens_text}
 use Rattle.sql_literals.proofs.HexReads.{no_empty_hex, starts_hex, lengthens_hex}
-use Rattle.sql_statements.specs.Insert.{QuotedName, NextName, NamesAnd, NextLiteral, Row, NextRow, Rows, Filled, InsertInto, HasRows}
+use Rattle.statement_forms.specs.Insert.{QuotedName, NextName, NamesAnd, NextLiteral, Row, NextRow, Rows, Filled, InsertInto, HasRows}
 use Rattle.statement_reading.specs.InsertReading.{RowRest, RowInside, Values, IsRows, HasValues, IsFilled}
 use Rattle.statement_reading.specs.Parts.{Names}
 use Rattle.statement_reading.proofs.Divisions.{one_cut_apart}
@@ -92,22 +92,22 @@ begins_next_literal : Begins NextLiteral []
 unfolding NextLiteral
 begins_next_literal = begins_then _ _ (begins_fixed _) begins_literal
 
--- what comes behind a literal begins with a comma or a closing parenthesis
-abbrev IsBehind : ℕ → Type 0
-IsBehind c = (c ≡ 44) ⊎ (c ≡ 41)
+-- what comes after a literal begins with a comma or a closing parenthesis
+abbrev IsAfter : ℕ → Type 0
+IsAfter c = (c ≡ 44) ⊎ (c ≡ 41)
 
-not_behind : (c : ℕ) → InLiteral c → IsBehind c → ⊥
-not_behind c more (inl comma) = no_literal_mark 44 c comma refl (omega arith) (omega arith) more
-not_behind c more (inr close) = no_literal_mark 41 c close refl (omega arith) (omega arith) more
+not_after : (c : ℕ) → InLiteral c → IsAfter c → ⊥
+not_after c more (inl comma) = no_literal_mark 44 c comma refl (omega arith) (omega arith) more
+not_after c more (inr close) = no_literal_mark 41 c close refl (omega arith) (omega arith) more
 
 apart_next_literals : Apart NextLiteral (Many NextLiteral)
-apart_next_literals = apart_many NextLiteral (apart_by _ _ _ _ lengthens_next_literal starts_next_literal (λ c more comma. not_behind c more (inl comma))) no_empty_next_literal
+apart_next_literals = apart_many NextLiteral (apart_by _ _ _ _ lengthens_next_literal starts_next_literal (λ c more comma. not_after c more (inl comma))) no_empty_next_literal
 
-starts_rest : (n : ℕ) → Starts (Then (Times NextLiteral n) (Fixed (codes ")"))) IsBehind
+starts_rest : (n : ℕ) → Starts (Then (Times NextLiteral n) (Fixed (codes ")"))) IsAfter
 starts_rest n = starts_row _ _ _ (starts_wider _ _ _ (λ c comma. inl comma) (starts_times NextLiteral _ n no_empty_next_literal starts_next_literal)) (starts_wider _ _ _ (λ c close. inr close) (starts_fixed 41 []))
 
 pub apart_counted : (n : ℕ) → Apart NextLiteral (Then (Times NextLiteral n) (Fixed (codes ")")))
-apart_counted n = apart_by _ _ _ _ lengthens_next_literal (starts_rest n) not_behind
+apart_counted n = apart_by _ _ _ _ lengthens_next_literal (starts_rest n) not_after
 
 pub begins_counted : (n : ℕ) → Begins (Then (Times NextLiteral n) (Fixed (codes ")"))) []
 begins_counted n = begins_then _ _ (begins_times NextLiteral n begins_next_literal) (begins_fixed _)
@@ -118,7 +118,7 @@ begins_rest n = begins_counted n
 
 pub apart_first : (n : ℕ) → Apart Literal (RowRest n)
 unfolding RowRest
-apart_first n = apart_by _ _ _ _ lengthens_literal (starts_rest n) not_behind
+apart_first n = apart_by _ _ _ _ lengthens_literal (starts_rest n) not_after
 
 pub begins_inside : (n : ℕ) → Begins (RowInside n) []
 unfolding RowInside
@@ -132,7 +132,7 @@ lengthens_all : (n : ℕ) → Lengthens (Times NextLiteral n) InLiteral
 lengthens_all n = lengthens_times NextLiteral InLiteral n apart_next_literals no_empty_next_literal lengthens_next_literal
 
 lengthens_close : (n : ℕ) (P : ℕ → Type 0) → Lengthens (Then (Times NextLiteral n) (Fixed (codes ")"))) P
-lengthens_close n P = lengthens_then _ _ P (apart_by _ _ _ _ (lengthens_all n) (starts_fixed 41 []) (λ c more close. not_behind c more (inr close))) (no_empty_fixed 41 []) (lengthens_fixed _ P)
+lengthens_close n P = lengthens_then _ _ P (apart_by _ _ _ _ (lengthens_all n) (starts_fixed 41 []) (λ c more close. not_after c more (inr close))) (no_empty_fixed 41 []) (lengthens_fixed _ P)
 
 no_empty_row : (n : ℕ) → ¬ Row n []
 unfolding Row
@@ -143,7 +143,7 @@ lengthens_row : (n : ℕ) (P : ℕ → Type 0) → Lengthens (Row n) P
 unfolding Row
 lengthens_row n P = lengthens_then _ _ P (fixed_apart _ _) (no_empty_then _ _ no_empty_literal) (lengthens_inside n P) where
   lengthens_inside : (n : ℕ) (P : ℕ → Type 0) → Lengthens (Then Literal (Then (Times NextLiteral n) (Fixed (codes ")")))) P
-  lengthens_inside n P = lengthens_then _ _ P (apart_by _ _ _ _ lengthens_literal (starts_rest n) not_behind) (no_empty_behind _ _ (no_empty_fixed 41 [])) (lengthens_close n P)
+  lengthens_inside n P = lengthens_then _ _ P (apart_by _ _ _ _ lengthens_literal (starts_rest n) not_after) (no_empty_after _ _ (no_empty_fixed 41 [])) (lengthens_close n P)
 
 pub no_empty_next_row : (n : ℕ) → ¬ NextRow n []
 unfolding NextRow
@@ -215,18 +215,18 @@ values_join more count s p k word rows = record {
 
 -- the columns and what they ask for
 
-unfoldable pub ValuesBehind : List ℕ → Language
-ValuesBehind names text = (more : ℕ) × NamesAnd more names × Values more text
+unfoldable pub ValuesAfter : List ℕ → Language
+ValuesAfter names text = (more : ℕ) × NamesAnd more names × Values more text
 
 unfoldable pub Named : Language
-Named = Next Names ValuesBehind
+Named = Next Names ValuesAfter
 
 filled_to : (t : List ℕ) → Filled t → Then (Fixed (codes " (")) Named t
-unfolding Filled Named Next Then ValuesBehind Values Names NamesAnd Many
+unfolding Filled Named Next Then ValuesAfter Values Names NamesAnd Many
 filled_to t (more, (a, b, e, begin, (n, v, split, (x, y, parts, name, others), values))) = (a, b, e, begin, (n, v, split, (x, y, parts, name, (more, others)), (more, (x, y, parts, name, others), values)))
 
 to_filled : (t : List ℕ) → Then (Fixed (codes " (")) Named t → Filled t
-unfolding Filled Named Next Then ValuesBehind Values
+unfolding Filled Named Next Then ValuesAfter Values
 to_filled t (a, b, e, begin, (n, v, split, names, (more, named, values))) = (more, (a, b, e, begin, (n, v, split, named, values)))
 
 names_counted : (a : List ℕ) → Names a → (more : ℕ) × NamesAnd more a
@@ -255,24 +255,24 @@ one_number m n t (a, b, e, first, rest) (c, d, f, other, more) =
     let cut = one_cut_apart QuotedName (Many NextName) a b c d apart_first_name first other (many_of NextName m b rest) (many_of NextName n d more) (sym e ∙ f) in
     one_times m n b rest (subst (Times NextName n) (sym cut.1) more)
 
-begins_behind : (a : List ℕ) → Names a → Begins (ValuesBehind a) []
-unfolding Begins ValuesBehind
-begins_behind a names = let (more, named) = names_counted a names in let (t, values) = begins_values more in (t, (more, named, values))
+begins_after : (a : List ℕ) → Names a → Begins (ValuesAfter a) []
+unfolding Begins ValuesAfter
+begins_after a names = let (more, named) = names_counted a names in let (t, values) = begins_values more in (t, (more, named, values))
 
-starts_behind : (a : List ℕ) → Starts (ValuesBehind a) (λ c. c ≡ 41)
-unfolding Starts ValuesBehind Values
-starts_behind a c y (more, named, values) = starts_then (Fixed (codes ") VALUES\n")) (Rows more) (λ c. c ≡ 41) (no_empty_fixed 41 _) (starts_fixed 41 _) c y values
+starts_after : (a : List ℕ) → Starts (ValuesAfter a) (λ c. c ≡ 41)
+unfolding Starts ValuesAfter Values
+starts_after a c y (more, named, values) = starts_then (Fixed (codes ") VALUES\n")) (Rows more) (λ c. c ≡ 41) (no_empty_fixed 41 _) (starts_fixed 41 _) c y values
 
 not_close : (c : ℕ) → (c ≡ 96) ⊎ (c ≡ 44) → c ≡ 41 → ⊥
 not_close c (inl quote) close = omega arith
 not_close c (inr comma) close = omega arith
 
-apart_names : NextApart Names ValuesBehind
-apart_names = next_apart_by Names ValuesBehind _ _ lengthens_names (λ a names. starts_behind a) not_close
+apart_names : NextApart Names ValuesAfter
+apart_names = next_apart_by Names ValuesAfter _ _ lengthens_names (λ a names. starts_after a) not_close
 
 begins_named : Begins Named []
 unfolding Named
-begins_named = begins_next Names ValuesBehind begins_names begins_behind
+begins_named = begins_next Names ValuesAfter begins_names begins_after
 
 pub begins_filled : Begins Filled []
 unfolding Begins
@@ -285,24 +285,24 @@ filled_begun s p reads = subst (Onward Filled Named s) (zero-add p)
 pub filled_broken : (s : List ℕ) (p : ℕ) → Reads (Fixed (codes " (")) s (Err p) → Reads Filled s (Err p)
 filled_broken s p reads = reads_same (Then (Fixed (codes " (")) Named) Filled s (Err p) to_filled filled_to (then_broken (Fixed (codes " (")) Named s p (fixed_apart _ _) begins_named reads)
 
-values_of_number : (a : List ℕ) (n : ℕ) → NamesAnd n a → (t : List ℕ) → ValuesBehind a t → Values n t
-unfolding ValuesBehind
+values_of_number : (a : List ℕ) (n : ℕ) → NamesAnd n a → (t : List ℕ) → ValuesAfter a t → Values n t
+unfolding ValuesAfter
 values_of_number a n named t (more, other, values) = subst (λ m. Values m t) (one_number more n a other named) values
 
-number_of_values : (a : List ℕ) (n : ℕ) → NamesAnd n a → (t : List ℕ) → Values n t → ValuesBehind a t
-unfolding ValuesBehind
+number_of_values : (a : List ℕ) (n : ℕ) → NamesAnd n a → (t : List ℕ) → Values n t → ValuesAfter a t
+unfolding ValuesAfter
 number_of_values a n named t values = (n, named, values)
 
 pub filled_named : (s : List ℕ) (p k n : ℕ) → Onward Filled Named s p → Reads Names (take (length s - p) (drop p s)) (Ok k) → NamesAnd n (take k (take (length s - p) (drop p s))) → Onward Filled (Values n) s (p + k)
 unfolding Named
 filled_named s p k n onward reads named =
     let here : NamesAnd n (take k (drop p s)) = subst (λ t. NamesAnd n (take k t)) (rest_of s p) named in
-    onward_same Filled (ValuesBehind (take k (drop p s))) (Values n) s (p + k) (values_of_number (take k (drop p s)) n here) (number_of_values (take k (drop p s)) n here)
-    (onward_next Filled Names ValuesBehind s p k (Ok k) onward apart_names reads refl)
+    onward_same Filled (ValuesAfter (take k (drop p s))) (Values n) s (p + k) (values_of_number (take k (drop p s)) n here) (number_of_values (take k (drop p s)) n here)
+    (onward_next Filled Names ValuesAfter s p k (Ok k) onward apart_names reads refl)
 
 pub filled_names_broken : (s : List ℕ) (p q : ℕ) → Onward Filled Named s p → Reads Names (take (length s - p) (drop p s)) (Err q) → Reads Filled s (Err (p + q))
 unfolding Named
-filled_names_broken s p q onward reads = onward_next_broken Filled Names ValuesBehind s p q (Err q) onward apart_names begins_behind reads refl
+filled_names_broken s p q onward reads = onward_next_broken Filled Names ValuesAfter s p q (Err q) onward apart_names begins_after reads refl
 
 pub filled_values : (s : List ℕ) (at n : ℕ) (r : Result ℕ ℕ) → Onward Filled (Values n) s at → Reads (Values n) (take (length s - at) (drop at s)) r → Reads Filled s (shift at r)
 filled_values s at n r onward reads = onward_last Filled (Values n) s at r onward reads
@@ -315,8 +315,8 @@ pub filled_is : (s : List ℕ) (p k q n rows : ℕ) → Reads (Fixed (codes " ("
 unfolding Fixed
 filled_is s p k q n rows word names named values =
     let two : p ≡ 2 = fixed_size (codes " (") s p word in
-    let behind : (p + k) - 2 ≡ k = omega arith in
-    let there : take ((p + k) - 2) (drop 2 s) ≡ take k (drop p s) = (λ i. take (behind i) (drop (sym two i) s)) in
+    let after : (p + k) - 2 ≡ k = omega arith in
+    let there : take ((p + k) - 2) (drop 2 s) ≡ take k (drop p s) = (λ i. take (after i) (drop (sym two i) s)) in
     record {
       more = n;
       rest = take q (drop (p + k) s);
@@ -359,7 +359,7 @@ fixed_begun a b s k reads = subst (λ n. Onward (Fixed (a ++ b)) (Fixed b) s n) 
 pub fixed_refused_first : (a b s : List ℕ) (p : ℕ) → Reads (Fixed a) s (Err p) → Reads (Fixed (a ++ b)) s (Err p)
 fixed_refused_first a b s p reads = subst (λ n. Reads (Fixed (a ++ b)) s (Err n)) (zero-add p) (fixed_stuck (Fixed (a ++ b)) a b s 0 p (onward_start (Fixed (a ++ b)) s) (rw (whole_taken s) reads))
 
--- what of a name is still to come, behind i of its bytes
+-- what of a name is still to come, after i of its bytes
 abbrev pub name_rest : List ℕ → ℕ → List ℕ
 name_rest name i = flat_map name_byte (drop i name) ++ 96 ∷ []
 

@@ -4,11 +4,11 @@ use Rattle.std.specs.Ordering.{ord_max}
 use Rattle.std.proofs.lemmas.Grind.{common_steps}
 use Rattle.statement_reading.specs.Kinds.{kind_row}
 use Rattle.statement_reading.specs.Readings.{IsRead, InRow}
-use Rattle.sql_statements.specs.Statement.{IsReadAs, Statements}
+use Rattle.statement_forms.specs.Statement.{IsReadAs, Statements}
 use Rattle.statement_reading.specs.declared.fault.StatementFault.TheVariants.{BadStatement, OutOfMemory}
 use Rattle.statement_reading.specs.declared.read.StatementKind.{StatementKind}
 use Rattle.statement_reading.specs.declared.read.TheConstants.{KINDS}
-use Rattle.sql_statements.specs.declared.statement.Statement.{Statement}
+use Rattle.statement_forms.specs.declared.statement.Statement.{Statement}
 use Rattle.statement_reading.proofs.Rows.{Passed, passed_read, passed_more, row_statement}
 
 -- from the i-th on, row and index are 48 together

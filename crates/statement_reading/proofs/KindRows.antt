@@ -1,16 +1,16 @@
 -- The rows of the statements whose forms several have.
 use Rattle.std.proofs.Common.{◌≡◌, ℕ, List, [], ◌++◌, refl, sym, ◌∙◌, append-nil, codes}
-use Rattle.object_texts.specs.Head.{HasHead}
-use Rattle.sql_literals.specs.Literal.{quoted}
-use Rattle.sql_literals.specs.Name.{quoted_name}
-use Rattle.sql_statements.specs.Insert.{AnyInsert}
-use Rattle.sql_statements.specs.Statement.{IsTextOf, IsDigest, row_of}
-use Rattle.sql_statements.specs.Text.{dotted, command_text, query_text}
-use Rattle.sql_statements.specs.declared.command.Command.TheVariants.{SetUp, NamesUtf8mb4, NamesBinary, ForeignKeyChecksOff, TimeZoneUtc, BinaryLogOff, SqlMode, CharacterSetClient, CollationConnection, RepeatableRead, LockInstance, FlushTables, UnlockTables, UnlockInstance, StartSnapshot, Start, Commit, Rollback, Use, Create, CreateProgress, CreateProgressFiles, CreateProgressDump, Insert, InsertProgressFile, InsertProgressDump}
-use Rattle.sql_statements.specs.declared.query.Query.TheVariants.{MasterStatus, Schemas, Tables, Columns, PrimaryKey, Triggers, Routines, ViewNeeds, CreateDatabase, CreateTable, CreateView, CreateProcedure, CreateFunction, CreateTrigger, ProgressDump, ProgressFiles}
+use Rattle.object_forms.specs.Head.{HasHead}
+use Rattle.sql_cells.specs.Literal.{text_literal}
+use Rattle.sql_cells.specs.Name.{quoted_name}
+use Rattle.statement_forms.specs.Insert.{AnyInsert}
+use Rattle.statement_forms.specs.Statement.{IsTextOf, IsDigest, row_of}
+use Rattle.statement_forms.specs.Text.{dotted, command_text, query_text}
+use Rattle.statement_forms.specs.declared.command.Command.TheVariants.{SetUp, NamesUtf8mb4, NamesBinary, ForeignKeyChecksOff, TimeZoneUtc, BinaryLogOff, SqlMode, CharacterSetClient, CollationConnection, RepeatableRead, LockInstance, FlushTables, UnlockTables, UnlockInstance, StartSnapshot, Start, Commit, Rollback, Use, Create, CreateProgress, CreateProgressFiles, CreateProgressDump, Insert, InsertProgressFile, InsertProgressDump}
+use Rattle.statement_forms.specs.declared.query.Query.TheVariants.{MasterStatus, Schemas, Tables, Columns, PrimaryKey, Triggers, Routines, ViewNeeds, CreateDatabase, CreateTable, CreateView, CreateProcedure, CreateFunction, CreateTrigger, ProgressDump, ProgressFiles}
 use Rattle.statement_reading.specs.declared.reading.values.Path.{Path}
-use Rattle.sql_statements.specs.declared.statement.Statement.{Statement}
-use Rattle.sql_statements.specs.declared.statement.Statement.TheVariants.{Command as SomeCommand, Query as SomeQuery}
+use Rattle.statement_forms.specs.declared.statement.Statement.{Statement}
+use Rattle.statement_forms.specs.declared.statement.Statement.TheVariants.{Command as SomeCommand, Query as SomeQuery}
 use Rattle.statement_reading.proofs.RowValues.{values_of}
 use Rattle.statement_reading.proofs.Rows.{Row, made_of}
 use Rattle.statement_reading.proofs.TextValues.{digest_spelled}
@@ -42,31 +42,31 @@ pub binary_log_off_row : Row 5 (λ (nothing : Unit {0}). SomeCommand BinaryLogOf
 unfolding command_text
 binary_log_off_row = fixed_row 5 (SomeCommand BinaryLogOff) (codes "SET SESSION sql_log_bin=0") (λ u e. made_of 5 u e) refl (λ t h. h.1) (λ t is. (tt, is))
 
-pub sql_mode_row : Row 6 (λ (v : List ℕ). SomeCommand (SqlMode v)) (λ v t. t ≡ codes "SET SESSION sql_mode=" ++ quoted v ++ [])
+pub sql_mode_row : Row 6 (λ (v : List ℕ). SomeCommand (SqlMode v)) (λ v t. t ≡ codes "SET SESSION sql_mode=" ++ text_literal v ++ [])
 unfolding command_text
 sql_mode_row = record {
   all = λ s e. ((values_of s).a, made_of 6 s e);
   row = λ v. refl;
-  to = λ v t h. h.1 ∙ sym (append-nil (codes "SET SESSION sql_mode=" ++ quoted v));
-  from = λ v t h. (tt, (h ∙ append-nil (codes "SET SESSION sql_mode=" ++ quoted v)));
+  to = λ v t h. h.1 ∙ sym (append-nil (codes "SET SESSION sql_mode=" ++ text_literal v));
+  from = λ v t h. (tt, (h ∙ append-nil (codes "SET SESSION sql_mode=" ++ text_literal v)));
 }
 
-pub character_set_client_row : Row 7 (λ (v : List ℕ). SomeCommand (CharacterSetClient v)) (λ v t. t ≡ codes "SET SESSION character_set_client=" ++ quoted v ++ [])
+pub character_set_client_row : Row 7 (λ (v : List ℕ). SomeCommand (CharacterSetClient v)) (λ v t. t ≡ codes "SET SESSION character_set_client=" ++ text_literal v ++ [])
 unfolding command_text
 character_set_client_row = record {
   all = λ s e. ((values_of s).a, made_of 7 s e);
   row = λ v. refl;
-  to = λ v t h. h.1 ∙ sym (append-nil (codes "SET SESSION character_set_client=" ++ quoted v));
-  from = λ v t h. (tt, (h ∙ append-nil (codes "SET SESSION character_set_client=" ++ quoted v)));
+  to = λ v t h. h.1 ∙ sym (append-nil (codes "SET SESSION character_set_client=" ++ text_literal v));
+  from = λ v t h. (tt, (h ∙ append-nil (codes "SET SESSION character_set_client=" ++ text_literal v)));
 }
 
-pub collation_connection_row : Row 8 (λ (v : List ℕ). SomeCommand (CollationConnection v)) (λ v t. t ≡ codes "SET SESSION collation_connection=" ++ quoted v ++ [])
+pub collation_connection_row : Row 8 (λ (v : List ℕ). SomeCommand (CollationConnection v)) (λ v t. t ≡ codes "SET SESSION collation_connection=" ++ text_literal v ++ [])
 unfolding command_text
 collation_connection_row = record {
   all = λ s e. ((values_of s).a, made_of 8 s e);
   row = λ v. refl;
-  to = λ v t h. h.1 ∙ sym (append-nil (codes "SET SESSION collation_connection=" ++ quoted v));
-  from = λ v t h. (tt, (h ∙ append-nil (codes "SET SESSION collation_connection=" ++ quoted v)));
+  to = λ v t h. h.1 ∙ sym (append-nil (codes "SET SESSION collation_connection=" ++ text_literal v));
+  from = λ v t h. (tt, (h ∙ append-nil (codes "SET SESSION collation_connection=" ++ text_literal v)));
 }
 
 pub repeatable_read_row : Row 9 (λ (nothing : Unit {0}). SomeCommand RepeatableRead) (λ nothing t. t ≡ codes "SET SESSION TRANSACTION ISOLATION LEVEL REPEATABLE READ")
@@ -144,7 +144,7 @@ insert_row = record {
   from = λ v t h. h;
 }
 
-pub insert_progress_file_row : Row 24 (λ (v : List ℕ). SomeCommand (InsertProgressFile v)) (λ v t. t ≡ codes "INSERT INTO `myloader_progress`.`files` (`name`) VALUES (" ++ quoted v ++ codes ")")
+pub insert_progress_file_row : Row 24 (λ (v : List ℕ). SomeCommand (InsertProgressFile v)) (λ v t. t ≡ codes "INSERT INTO `myloader_progress`.`files` (`name`) VALUES (" ++ text_literal v ++ codes ")")
 unfolding command_text
 insert_progress_file_row = record {
   all = λ s e. ((values_of s).a, made_of 24 s e);
@@ -170,16 +170,16 @@ pub schemas_row : Row 27 (λ (nothing : Unit {0}). SomeQuery Schemas) (λ nothin
 unfolding query_text
 schemas_row = fixed_row 27 (SomeQuery Schemas) (codes "SELECT SCHEMA_NAME FROM information_schema.SCHEMATA") (λ u e. made_of 27 u e) refl (λ t h. h.2) (λ t is. (tt, tt, is))
 
-pub tables_row : Row 28 (λ (v : List ℕ). SomeQuery (Tables v)) (λ v t. t ≡ codes "SELECT TABLE_NAME,TABLE_TYPE,ENGINE FROM information_schema.TABLES WHERE TABLE_SCHEMA=" ++ quoted v ++ [])
+pub tables_row : Row 28 (λ (v : List ℕ). SomeQuery (Tables v)) (λ v t. t ≡ codes "SELECT TABLE_NAME,TABLE_TYPE,ENGINE FROM information_schema.TABLES WHERE TABLE_SCHEMA=" ++ text_literal v ++ [])
 unfolding query_text
 tables_row = record {
   all = λ s e. ((values_of s).a, made_of 28 s e);
   row = λ v. refl;
-  to = λ v t h. h.2 ∙ sym (append-nil (codes "SELECT TABLE_NAME,TABLE_TYPE,ENGINE FROM information_schema.TABLES WHERE TABLE_SCHEMA=" ++ quoted v));
-  from = λ v t h. (tt, tt, (h ∙ append-nil (codes "SELECT TABLE_NAME,TABLE_TYPE,ENGINE FROM information_schema.TABLES WHERE TABLE_SCHEMA=" ++ quoted v)));
+  to = λ v t h. h.2 ∙ sym (append-nil (codes "SELECT TABLE_NAME,TABLE_TYPE,ENGINE FROM information_schema.TABLES WHERE TABLE_SCHEMA=" ++ text_literal v));
+  from = λ v t h. (tt, tt, (h ∙ append-nil (codes "SELECT TABLE_NAME,TABLE_TYPE,ENGINE FROM information_schema.TABLES WHERE TABLE_SCHEMA=" ++ text_literal v)));
 }
 
-pub columns_row : Row 29 (λ (v : Path). SomeQuery (Columns v.schema v.name)) (λ v t. t ≡ codes "SELECT COLUMN_NAME,DATA_TYPE,COLUMN_TYPE,EXTRA FROM information_schema.COLUMNS WHERE TABLE_SCHEMA=" ++ quoted v.schema ++ codes " AND TABLE_NAME=" ++ quoted v.name ++ codes " ORDER BY ORDINAL_POSITION")
+pub columns_row : Row 29 (λ (v : Path). SomeQuery (Columns v.schema v.name)) (λ v t. t ≡ codes "SELECT COLUMN_NAME,DATA_TYPE,COLUMN_TYPE,EXTRA FROM information_schema.COLUMNS WHERE TABLE_SCHEMA=" ++ text_literal v.schema ++ codes " AND TABLE_NAME=" ++ text_literal v.name ++ codes " ORDER BY ORDINAL_POSITION")
 unfolding query_text
 columns_row = record {
   all = λ s e. (record { schema = (values_of s).a; name = (values_of s).b }, made_of 29 s e);
@@ -188,7 +188,7 @@ columns_row = record {
   from = λ v t h. (tt, tt, h);
 }
 
-pub primary_key_row : Row 30 (λ (v : Path). SomeQuery (PrimaryKey v.schema v.name)) (λ v t. t ≡ codes "SELECT COLUMN_NAME FROM information_schema.STATISTICS WHERE TABLE_SCHEMA=" ++ quoted v.schema ++ codes " AND TABLE_NAME=" ++ quoted v.name ++ codes " AND INDEX_NAME='PRIMARY' ORDER BY SEQ_IN_INDEX")
+pub primary_key_row : Row 30 (λ (v : Path). SomeQuery (PrimaryKey v.schema v.name)) (λ v t. t ≡ codes "SELECT COLUMN_NAME FROM information_schema.STATISTICS WHERE TABLE_SCHEMA=" ++ text_literal v.schema ++ codes " AND TABLE_NAME=" ++ text_literal v.name ++ codes " AND INDEX_NAME='PRIMARY' ORDER BY SEQ_IN_INDEX")
 unfolding query_text
 primary_key_row = record {
   all = λ s e. (record { schema = (values_of s).a; name = (values_of s).b }, made_of 30 s e);
@@ -197,31 +197,31 @@ primary_key_row = record {
   from = λ v t h. (tt, tt, h);
 }
 
-pub triggers_row : Row 31 (λ (v : List ℕ). SomeQuery (Triggers v)) (λ v t. t ≡ codes "SELECT TRIGGER_NAME,EVENT_OBJECT_TABLE,ACTION_ORDER FROM information_schema.TRIGGERS WHERE TRIGGER_SCHEMA=" ++ quoted v ++ [])
+pub triggers_row : Row 31 (λ (v : List ℕ). SomeQuery (Triggers v)) (λ v t. t ≡ codes "SELECT TRIGGER_NAME,EVENT_OBJECT_TABLE,ACTION_ORDER FROM information_schema.TRIGGERS WHERE TRIGGER_SCHEMA=" ++ text_literal v ++ [])
 unfolding query_text
 triggers_row = record {
   all = λ s e. ((values_of s).a, made_of 31 s e);
   row = λ v. refl;
-  to = λ v t h. h.2 ∙ sym (append-nil (codes "SELECT TRIGGER_NAME,EVENT_OBJECT_TABLE,ACTION_ORDER FROM information_schema.TRIGGERS WHERE TRIGGER_SCHEMA=" ++ quoted v));
-  from = λ v t h. (tt, tt, (h ∙ append-nil (codes "SELECT TRIGGER_NAME,EVENT_OBJECT_TABLE,ACTION_ORDER FROM information_schema.TRIGGERS WHERE TRIGGER_SCHEMA=" ++ quoted v)));
+  to = λ v t h. h.2 ∙ sym (append-nil (codes "SELECT TRIGGER_NAME,EVENT_OBJECT_TABLE,ACTION_ORDER FROM information_schema.TRIGGERS WHERE TRIGGER_SCHEMA=" ++ text_literal v));
+  from = λ v t h. (tt, tt, (h ∙ append-nil (codes "SELECT TRIGGER_NAME,EVENT_OBJECT_TABLE,ACTION_ORDER FROM information_schema.TRIGGERS WHERE TRIGGER_SCHEMA=" ++ text_literal v)));
 }
 
-pub routines_row : Row 32 (λ (v : List ℕ). SomeQuery (Routines v)) (λ v t. t ≡ codes "SELECT ROUTINE_NAME,ROUTINE_TYPE FROM information_schema.ROUTINES WHERE ROUTINE_SCHEMA=" ++ quoted v ++ [])
+pub routines_row : Row 32 (λ (v : List ℕ). SomeQuery (Routines v)) (λ v t. t ≡ codes "SELECT ROUTINE_NAME,ROUTINE_TYPE FROM information_schema.ROUTINES WHERE ROUTINE_SCHEMA=" ++ text_literal v ++ [])
 unfolding query_text
 routines_row = record {
   all = λ s e. ((values_of s).a, made_of 32 s e);
   row = λ v. refl;
-  to = λ v t h. h.2 ∙ sym (append-nil (codes "SELECT ROUTINE_NAME,ROUTINE_TYPE FROM information_schema.ROUTINES WHERE ROUTINE_SCHEMA=" ++ quoted v));
-  from = λ v t h. (tt, tt, (h ∙ append-nil (codes "SELECT ROUTINE_NAME,ROUTINE_TYPE FROM information_schema.ROUTINES WHERE ROUTINE_SCHEMA=" ++ quoted v)));
+  to = λ v t h. h.2 ∙ sym (append-nil (codes "SELECT ROUTINE_NAME,ROUTINE_TYPE FROM information_schema.ROUTINES WHERE ROUTINE_SCHEMA=" ++ text_literal v));
+  from = λ v t h. (tt, tt, (h ∙ append-nil (codes "SELECT ROUTINE_NAME,ROUTINE_TYPE FROM information_schema.ROUTINES WHERE ROUTINE_SCHEMA=" ++ text_literal v)));
 }
 
-pub view_needs_row : Row 33 (λ (v : List ℕ). SomeQuery (ViewNeeds v)) (λ v t. t ≡ codes "SELECT VIEW_NAME,TABLE_SCHEMA,TABLE_NAME FROM information_schema.VIEW_TABLE_USAGE WHERE VIEW_SCHEMA=" ++ quoted v ++ [])
+pub view_needs_row : Row 33 (λ (v : List ℕ). SomeQuery (ViewNeeds v)) (λ v t. t ≡ codes "SELECT VIEW_NAME,TABLE_SCHEMA,TABLE_NAME FROM information_schema.VIEW_TABLE_USAGE WHERE VIEW_SCHEMA=" ++ text_literal v ++ [])
 unfolding query_text
 view_needs_row = record {
   all = λ s e. ((values_of s).a, made_of 33 s e);
   row = λ v. refl;
-  to = λ v t h. h.2 ∙ sym (append-nil (codes "SELECT VIEW_NAME,TABLE_SCHEMA,TABLE_NAME FROM information_schema.VIEW_TABLE_USAGE WHERE VIEW_SCHEMA=" ++ quoted v));
-  from = λ v t h. (tt, tt, (h ∙ append-nil (codes "SELECT VIEW_NAME,TABLE_SCHEMA,TABLE_NAME FROM information_schema.VIEW_TABLE_USAGE WHERE VIEW_SCHEMA=" ++ quoted v)));
+  to = λ v t h. h.2 ∙ sym (append-nil (codes "SELECT VIEW_NAME,TABLE_SCHEMA,TABLE_NAME FROM information_schema.VIEW_TABLE_USAGE WHERE VIEW_SCHEMA=" ++ text_literal v));
+  from = λ v t h. (tt, tt, (h ∙ append-nil (codes "SELECT VIEW_NAME,TABLE_SCHEMA,TABLE_NAME FROM information_schema.VIEW_TABLE_USAGE WHERE VIEW_SCHEMA=" ++ text_literal v)));
 }
 
 pub create_database_row : Row 34 (λ (v : List ℕ). SomeQuery (CreateDatabase v)) (λ v t. t ≡ codes "SHOW CREATE DATABASE " ++ quoted_name v)

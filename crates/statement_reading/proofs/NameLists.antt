@@ -5,10 +5,10 @@ use Rattle.grammar.specs.Language.{Language, Reads, Nothing, Fixed, Then, Next, 
 use Rattle.grammar.proofs.Places.{reads_rest, read_some}
 use Rattle.grammar.proofs.Repeats.{many_split, begins_many}
 use Rattle.grammar.proofs.Rows.{Apart, NextApart, second_text, then_broken}
-use Rattle.sql_literals.specs.Name.{quoted_name}
-use Rattle.sql_statements.specs.Insert.{QuotedName, NextName}
+use Rattle.sql_cells.specs.Name.{quoted_name}
+use Rattle.statement_forms.specs.Insert.{QuotedName, NextName}
 use Rattle.statement_reading.specs.Parts.{Names}
-use Rattle.sql_statements.specs.Text.{names}
+use Rattle.statement_forms.specs.Text.{names}
 use Rattle.statement_reading.proofs.NameReads.{apart_first_name, no_empty_name}
 use Rattle.statement_reading.proofs.NumberValues.{not_refused}
 
@@ -38,15 +38,15 @@ listed_step text at k within reads =
     let there = name_read text at k reads in
     (read_some QuotedName (drop at text) k (Ok k) no_empty_name there refl, omega (arith, there.place.within, length-drop at text))
 
-behind_read : (A B : Language) (s : List ℕ) (p : ℕ) → Apart A B → Reads A s (Ok p) → Then A B s → B (drop p s)
+after_read : (A B : Language) (s : List ℕ) (p : ℕ) → Apart A B → Reads A s (Ok p) → Then A B s → B (drop p s)
 unfolding Then Next Apart NextApart
-behind_read A B s p apart reads row =
+after_read A B s p apart reads row =
     let whole : take (length (drop p s)) (drop p s) ≡ drop p s = take_all (length (drop p s)) (drop p s) (omega arith) in
     subst B whole (second_text A (λ _. B) s p apart reads (length (drop p s)) (subst (Then A B) (sym (take-append-drop p s) ∙ ap (λ l. take p s ++ l) (sym whole)) row))
 
 names_left : (text : List ℕ) (parts : List (List ℕ)) (at k : ℕ) → Listed text parts at → Reads QuotedName (take (length text - at) (drop at text)) (Ok k) → Many NextName (drop (at + k) text)
 unfolding Names
-names_left text parts at k listed reads = subst (Many NextName) (drop-drop k at text) (behind_read QuotedName (Many NextName) (drop at text) k apart_first_name (name_read text at k reads) listed.rest)
+names_left text parts at k listed reads = subst (Many NextName) (drop-drop k at text) (after_read QuotedName (Many NextName) (drop at text) k apart_first_name (name_read text at k reads) listed.rest)
 
 pub listed_end : (text : List ℕ) (parts : List (List ℕ)) (at k : ℕ) (v : List ℕ) → Listed text parts at → quoted_name v ≡ take k (drop at text) → at + k ≡ length text → names (parts ++ v ∷ []) ≡ text
 listed_end text parts at k v listed is end = listed.joined (v ∷ []) (omega arith) (is ∙ take_all k (drop at text) (omega (arith, length-drop at text)))
@@ -72,13 +72,13 @@ names_some v (w ∷ ws) some = names_next v w ws
 pub listed_more : (text : List ℕ) (parts : List (List ℕ)) (at k : ℕ) (v : List ℕ) → Listed text parts at → Reads QuotedName (take (length text - at) (drop at text)) (Ok k) → quoted_name v ≡ take k (drop at text) → at + k ≢ length text → Listed text (parts ++ v ∷ []) (at + k + 1)
 listed_more text parts at k v listed reads is other =
     let step = listed_step text at k listed.within reads in
-    let behind = comma_split (drop (at + k) text) (omega (arith, length-drop (at + k) text)) (names_left text parts at k listed reads) in
+    let after = comma_split (drop (at + k) text) (omega (arith, length-drop (at + k) text)) (names_left text parts at k listed reads) in
     let next : drop 1 (drop (at + k) text) ≡ drop (at + k + 1) text = drop-drop 1 (at + k) text in
     record {
       within = omega arith;
-      rest = subst Names next behind.1;
+      rest = subst Names next after.1;
       joined = λ vs some there.
           let whole : drop at text ≡ names (v ∷ vs) =
-          sym (take-append-drop k (drop at text)) ∙ ap (λ l. l ++ drop k (drop at text)) (sym is) ∙ ap (λ l. quoted_name v ++ l) (drop-drop k at text ∙ behind.0 ∙ ap (λ l. 44 ∷ l) (next ∙ sym there)) ∙ sym (names_some v vs some) in
+          sym (take-append-drop k (drop at text)) ∙ ap (λ l. l ++ drop k (drop at text)) (sym is) ∙ ap (λ l. quoted_name v ++ l) (drop-drop k at text ∙ after.0 ∙ ap (λ l. 44 ∷ l) (next ∙ sym there)) ∙ sym (names_some v vs some) in
           ap names (append_assoc parts (v ∷ []) vs) ∙ listed.joined (v ∷ vs) (omega arith) (sym whole);
     }

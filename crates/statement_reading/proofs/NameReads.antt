@@ -6,7 +6,7 @@ use Rattle.grammar.proofs.Leaves.{fixed_apart, one_apart}
 use Rattle.grammar.proofs.Repeats.{apart_many, begins_many}
 use Rattle.grammar.proofs.Rows.{Apart}
 use Rattle.grammar.proofs.Sets.{Starts, Lengthens, apart_by, apart_free, starts_fixed, starts_one, starts_then, starts_many, starts_wider, lengthens_wider, lengthens_fixed, lengthens_one, lengthens_then, lengthens_before, lengthens_many}
-use Rattle.sql_statements.specs.Insert.{is_inside, OpenedName, NamePart, QuotedName, NextName}
+use Rattle.statement_forms.specs.Insert.{is_inside, OpenedName, NamePart, QuotedName, NextName}
 use Rattle.statement_reading.specs.Parts.{Names}
 
 abbrev IsInside : ℕ → Type 0

@@ -6,11 +6,11 @@ use Rattle.std.proofs.lemmas.Grind.{flat_map-append}
 use Rattle.std.proofs.lemmas.List.{append_cancel_right, drop-drop, get_or-drop}
 use Rattle.std.proofs.Math.Seq.{take-append_seam, drop-append_seam}
 use Rattle.grammar.specs.Language.{Fixed, One, Then, Times, Many, Nothing}
-use Rattle.sql_literals.specs.Name.{name_byte, quoted_name}
-use Rattle.sql_statements.specs.Insert.{is_inside, OpenedName, NamePart, QuotedName, NextName}
+use Rattle.sql_cells.specs.Name.{name_byte, quoted_name}
+use Rattle.statement_forms.specs.Insert.{is_inside, OpenedName, NamePart, QuotedName, NextName}
 use Rattle.statement_reading.specs.Parts.{Names}
 use Rattle.statement_reading.specs.Readings.{has_byte, IsDoubled}
-use Rattle.sql_statements.specs.Text.{names}
+use Rattle.statement_forms.specs.Text.{names}
 use Rattle.statement_reading.proofs.NameReads.{apart_first_name}
 use Rattle.statement_reading.proofs.Divisions.{one_cut_apart}
 
@@ -40,7 +40,7 @@ part_inner t (x, y, e, (a, b, split, begin, (n, inside)), close) =
     let front : x ≡ 96 ∷ b = split ∙ ap (λ l. l ++ b) begin in
     record { inner = b; is = e ∙ ap (λ l. l ++ y) front ∙ ap (λ l. 96 ∷ b ++ l) close; same = inside_same n b inside }
 
--- a part, and behind it a name, are the name with a backquote between
+-- a part, and after it a name, are the name with a backquote between
 part_before : (x w : List ℕ) → flat_map name_byte x ≡ x → (96 ∷ x ++ 96 ∷ []) ++ quoted_name w ≡ quoted_name (x ++ 96 ∷ w)
 part_before x w same =
     append_assoc (96 ∷ x) (96 ∷ []) (quoted_name w) ∙ ap (λ l. 96 ∷ l)
@@ -183,33 +183,33 @@ doubled_next s i made size within so_far left size_is = by_name left.name left.i
 
 -- lists of names
 
--- what stands behind the first of some names
-abbrev behind_name : List (List ℕ) → List ℕ
-behind_name [] = []
-behind_name (w ∷ ws) = 44 ∷ names (w ∷ ws)
+-- what stands after the first of some names
+abbrev after_name : List (List ℕ) → List ℕ
+after_name [] = []
+after_name (w ∷ ws) = 44 ∷ names (w ∷ ws)
 
-names_cons : (v : List ℕ) (vs : List (List ℕ)) → names (v ∷ vs) ≡ quoted_name v ++ behind_name vs
+names_cons : (v : List ℕ) (vs : List (List ℕ)) → names (v ∷ vs) ≡ quoted_name v ++ after_name vs
 names_cons v [] = sym (append-nil (quoted_name v))
 names_cons v (w ∷ ws) = refl
 
-behind_text : (vs : List (List ℕ)) → Many NextName (behind_name vs)
+after_text : (vs : List (List ℕ)) → Many NextName (after_name vs)
 unfolding Many Times NextName Then Fixed Nothing
-behind_text [] = (0, refl)
-behind_text (w ∷ ws) = let (n, more) = behind_text ws in
-    (suc n, (44 ∷ quoted_name w, behind_name ws, ap (λ l. 44 ∷ l) (names_cons w ws), (44 ∷ [], quoted_name w, refl, refl, name_text w), more))
+after_text [] = (0, refl)
+after_text (w ∷ ws) = let (n, more) = after_text ws in
+    (suc n, (44 ∷ quoted_name w, after_name ws, ap (λ l. 44 ∷ l) (names_cons w ws), (44 ∷ [], quoted_name w, refl, refl, name_text w), more))
 
 -- The text that is written for names is a list of names.
 pub names_text : (vs : List (List ℕ)) → 0 < length vs → Names (names vs)
 unfolding Names Then
 names_text [] some = absurd (omega arith)
-names_text (v ∷ vs) some = (quoted_name v, behind_name vs, names_cons v vs, name_text v, behind_text vs)
+names_text (v ∷ vs) some = (quoted_name v, after_name vs, names_cons v vs, name_text v, after_text vs)
 
-behind_of : (n : ℕ) (t : List ℕ) → Times NextName n t → (vs : List (List ℕ)) × (t ≡ behind_name vs)
+after_of : (n : ℕ) (t : List ℕ) → Times NextName n t → (vs : List (List ℕ)) × (t ≡ after_name vs)
 unfolding Times NextName Then Fixed Nothing
-behind_of zero t none = ([], none)
-behind_of (suc n) t (a, b, e, (x, y, split, comma, name), more) =
+after_of zero t none = ([], none)
+after_of (suc n) t (a, b, e, (x, y, split, comma, name), more) =
     let (v, is) = name_of y name in
-    let (vs, rest) = behind_of n b more in
+    let (vs, rest) = after_of n b more in
     let front : a ≡ 44 ∷ quoted_name v = split ∙ ap (λ l. l ++ y) comma ∙ ap (λ l. 44 ∷ l) is in
     (v ∷ vs, e ∙ ap (λ l. l ++ b) front ∙ ap (λ l. 44 ∷ quoted_name v ++ l) rest ∙ ap (λ l. 44 ∷ l) (sym (names_cons v vs)))
 
@@ -218,20 +218,20 @@ pub names_of : (t : List ℕ) → Names t → (vs : List (List ℕ)) × (0 < len
 unfolding Names Then Many
 names_of t (a, b, e, name, (n, more)) =
     let (v, is) = name_of a name in
-    let (vs, rest) = behind_of n b more in
+    let (vs, rest) = after_of n b more in
     (v ∷ vs, omega arith, e ∙ ap (λ l. l ++ b) is ∙ ap (λ l. quoted_name v ++ l) rest ∙ sym (names_cons v vs))
 
-one_behind : (us vs : List (List ℕ)) → behind_name us ≡ behind_name vs → (0 < length us → 0 < length vs → names us ≡ names vs → us ≡ vs) → us ≡ vs
-one_behind [] [] e one = refl
-one_behind [] (v ∷ vs) e one = cc
-one_behind (u ∷ us) [] e one = cc
-one_behind (u ∷ us) (v ∷ vs) e one = one (omega arith) (omega arith) (cc)
+one_after : (us vs : List (List ℕ)) → after_name us ≡ after_name vs → (0 < length us → 0 < length vs → names us ≡ names vs → us ≡ vs) → us ≡ vs
+one_after [] [] e one = refl
+one_after [] (v ∷ vs) e one = cc
+one_after (u ∷ us) [] e one = cc
+one_after (u ∷ us) (v ∷ vs) e one = one (omega arith) (omega arith) (cc)
 
 pub one_names : (us vs : List (List ℕ)) → 0 < length us → 0 < length vs → names us ≡ names vs → us ≡ vs
 one_names [] vs some more e = absurd (omega arith)
 one_names (u ∷ us) [] some more e = absurd (omega arith)
 one_names (u ∷ us) (v ∷ vs) some more e =
-    let cut = one_cut_apart QuotedName (Many NextName) (quoted_name u) (behind_name us) (quoted_name v) (behind_name vs) apart_first_name (name_text u) (name_text v) (behind_text us) (behind_text vs) (sym (names_cons u us) ∙ e ∙ names_cons v vs) in
+    let cut = one_cut_apart QuotedName (Many NextName) (quoted_name u) (after_name us) (quoted_name v) (after_name vs) apart_first_name (name_text u) (name_text v) (after_text us) (after_text vs) (sym (names_cons u us) ∙ e ∙ names_cons v vs) in
     let head : u ≡ v = one_name u v cut.0 in
-    let tail : us ≡ vs = one_behind us vs cut.1 (λ some more. one_names us vs some more) in
+    let tail : us ≡ vs = one_after us vs cut.1 (λ some more. one_names us vs some more) in
     cc

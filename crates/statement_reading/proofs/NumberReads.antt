@@ -48,7 +48,7 @@ not_zero : (m b : ℕ) (more : List ℕ) → m < 10 ^ 64 → decimal m ≡ 48 �
 not_zero zero b more small e = cc (decimal_digit 0 (omega arith))
 not_zero (suc m) b more small e = absurd (omega (arith, (first_digit (suc m) 48 (b ∷ more) small e).2))
 
--- What lengthens a number is a digit, behind another number than 0, and the number grows so.
+-- What lengthens a number is a digit, after another number than 0, and the number grows so.
 pub longer_decimal : (v m b : ℕ) (more : List ℕ) → v < 10 ^ 64 → m < 10 ^ 64 → decimal m ≡ decimal v ++ b ∷ more → (48 ≤ b) × (b ≤ 57) × (0 < v) × (v * 10 + (b - 48) ≤ m)
 longer_decimal v m b more low high e =
     let small : digit_value b < 10 = digit_inside (decimal v) b more (subst (AllDigits 10) e (decimal_is_IsNumeral_wide m high).0.1) in

@@ -9,7 +9,7 @@ use Rattle.grammar.specs.Language.{Language, Reads, Fixed, Then, Or}
 use Rattle.grammar.proofs.Choices.{neither}
 use Rattle.grammar.proofs.Places.{begins_text}
 use Rattle.statement_reading.specs.Parts.{Within, BoundText}
-use Rattle.sql_statements.specs.Statement.{IsI128}
+use Rattle.statement_forms.specs.Statement.{IsI128}
 use Rattle.statement_reading.proofs.NumberReads.{Positive, Negative, of_sign, first_digit, no_empty_positive, no_empty_negative}
 
 all_taken : (L : Language) (s : List ℕ) → L s → L (take (length s) s)
@@ -71,7 +71,7 @@ bound_with t text minus = elim (of_sign t text) [
       )
 ]
 
--- The digits of a number of 128 bits behind its sign.
+-- The digits of a number of 128 bits after its sign.
 pub negative_text : (n : ℕ) (t : List ℕ) → 0 < n → t ≡ 45 ∷ drop 1 t → decimal n ≡ drop 1 t → signed_decimal (negsuc (n - 1)) ≡ t
 negative_text n t some split is =
     let same : suc (n - 1) ≡ n = omega arith in

@@ -1,15 +1,15 @@
 -- The forms of the queries for rows and keys.
 use Rattle.std.proofs.Common.{◌≡◌, ℕ, List, [], ◌∷◌, ◌++◌, get_or, refl, sym, ◌∙◌, subst, arith, append_assoc, append-nil, codes, decimal, ℤ}
 use Rattle.std.specs.Fmt.{signed_decimal}
-use Rattle.sql_literals.specs.Name.{quoted_name}
+use Rattle.sql_cells.specs.Name.{quoted_name}
 use Rattle.statement_reading.specs.Slots.{HasParts, Place}
 use Rattle.statement_reading.specs.Slots.Place.{word, part, again}
-use Rattle.sql_statements.specs.Statement.{IsTextOf, QueryHasText, InRange}
-use Rattle.sql_statements.specs.Text.{names, query_text}
-use Rattle.sql_statements.specs.declared.query.Query.TheVariants.{Key, KeyAbove, Rows, RowsByKey, RowsAbove, RowsUpTo, RowsBetween}
+use Rattle.statement_forms.specs.Statement.{IsTextOf, QueryHasText, InRange}
+use Rattle.statement_forms.specs.Text.{names, query_text}
+use Rattle.statement_forms.specs.declared.query.Query.TheVariants.{Key, KeyAbove, Rows, RowsByKey, RowsAbove, RowsUpTo, RowsBetween}
 use Rattle.statement_reading.specs.declared.reading.kind.PartKind.TheVariants.{Name, NameList, Count, Bound}
-use Rattle.sql_statements.specs.declared.statement.Statement.{Statement}
-use Rattle.sql_statements.specs.declared.statement.Statement.TheVariants.{Query as SomeQuery}
+use Rattle.statement_forms.specs.declared.statement.Statement.{Statement}
+use Rattle.statement_forms.specs.declared.statement.Statement.TheVariants.{Query as SomeQuery}
 use Rattle.statement_reading.proofs.Forms.{Form, part_is, form_entries}
 use Rattle.statement_reading.proofs.NameValues.{name_of, name_text, one_name, names_of, names_text, one_names}
 use Rattle.statement_reading.proofs.NumberValues.{count_of, count_text, one_count, bound_of, bound_text, one_bound}
@@ -17,7 +17,7 @@ use Rattle.statement_reading.proofs.RowValues.{values_of}
 use Rattle.statement_reading.proofs.Rows.{Row, made_of}
 use Rattle.statement_reading.proofs.Spelled.{spelled, spelled_is, has_spelled}
 
--- One key of a table, in order, behind so many others.
+-- One key of a table, in order, after so many others.
 
 abbrev pub key_values : Type 0
 key_values = List ℕ × List ℕ × List ℕ × ℕ
@@ -69,7 +69,7 @@ key_row = record {
   from = λ v t h. h;
 }
 
--- One key above a bound, behind so many others.
+-- One key above a bound, after so many others.
 
 abbrev pub key_above_values : Type 0
 key_above_values = List ℕ × List ℕ × List ℕ × ℤ × ℕ

@@ -4,10 +4,10 @@ use Rattle.std.proofs.lemmas.Bool.{cases_lt}
 use Rattle.grammar.specs.Language.{Language, Refused, Or}
 use Rattle.grammar.proofs.Wholes.{refused_or}
 use Rattle.statement_reading.specs.Readings.{TextOfSome, IsOnly, IsRead, InRow, FromRow}
-use Rattle.sql_statements.specs.Statement.{row_of, IsTextOf, Statements, IsReadAs}
+use Rattle.statement_forms.specs.Statement.{row_of, IsTextOf, Statements, IsReadAs}
 use Rattle.statement_reading.specs.declared.fault.StatementFault.{StatementFault}
 use Rattle.statement_reading.specs.declared.fault.StatementFault.TheVariants.{BadStatement, OutOfMemory}
-use Rattle.sql_statements.specs.declared.statement.Statement.{Statement}
+use Rattle.statement_forms.specs.declared.statement.Statement.{Statement}
 use Rattle.statement_reading.proofs.Forms.{refused_same}
 use Rattle.statement_reading.proofs.RowValues.{values_of, statement_at, rebuilt, below_49}
 

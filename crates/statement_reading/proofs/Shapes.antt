@@ -91,10 +91,10 @@ slot_apart (word bytes) slots before clear = next_apart_free _ _ (lengthens_fixe
 slot_apart (part kind) slots before clear = part_apart kind slots before (both _ _ clear).0
 slot_apart (again index) slots before clear = next_apart_free _ _ (lengthens_fixed _ _)
 
-clear_behind : (slot : Place) (slots : List Place) → is_clear (slot ∷ slots) ≡ true → is_clear slots ≡ true
-clear_behind (word bytes) slots clear = clear
-clear_behind (part kind) slots clear = (both _ _ clear).1
-clear_behind (again index) slots clear = clear
+clear_after : (slot : Place) (slots : List Place) → is_clear (slot ∷ slots) ≡ true → is_clear slots ≡ true
+clear_after (word bytes) slots clear = clear
+clear_after (part kind) slots clear = (both _ _ clear).1
+clear_after (again index) slots clear = clear
 
 -- Bytes with parts have the shape.
 pub shaped_of : (slots : List Place) (before parts : List (List ℕ)) (t : List ℕ) → HasParts slots before parts t → Shaped slots before t
@@ -114,12 +114,12 @@ unfolding HasParts
 one_parts [] before x y t clear (e, one) (f, other) = one ∙ sym other
 one_parts (slot ∷ slots) before x y t clear (a, b, e, first, rest) (c, d, f, other, more) =
     let cut = one_cut (slot_language slot before) (λ w. Shaped slots (parts_with slot before w)) a b c d (slot_apart slot slots before clear) first other (shaped_of slots _ x b rest) (shaped_of slots _ y d more) (sym e ∙ f) in
-    one_parts slots (parts_with slot before a) x y b (clear_behind slot slots clear) rest
+    one_parts slots (parts_with slot before a) x y b (clear_after slot slots clear) rest
     (subst (λ w. HasParts slots (parts_with slot before w) y b) (sym cut.0) (subst (HasParts slots (parts_with slot before c) y) (sym cut.1) more))
 
 -- reading
 
--- what is left behind `at` bytes and i slots
+-- what is left after `at` bytes and i slots
 pub record Along (slots : List Place) (i : ℕ) (parts : List (List ℕ)) (text : List ℕ) (at : ℕ) : Type 0 where
   pub onward : Onward (Shaped slots []) (Shaped (drop i slots) parts) text at
   pub back : (all : List (List ℕ)) → HasParts (drop i slots) parts all (drop at text) → HasParts slots [] all text
@@ -157,7 +157,7 @@ along_more slots i d parts text at k r within along reads was =
       onward = onward_next (Shaped (places slots) []) (slot_language slot parts) (λ a. Shaped rest (parts_with slot parts a)) text at k r left (slot_apart slot rest parts clear) reads was;
       back = λ all there. along.back all (subst (λ l. HasParts l parts all (drop at text)) (sym split)
           (take k (drop at text), drop k (drop at text), sym (take-append-drop k (drop at text)), whole.text, subst (HasParts rest (parts_with slot parts (take k (drop at text))) all) (sym (drop-drop k at text)) there));
-      clear = clear_behind slot rest clear;
+      clear = clear_after slot rest clear;
       few = omega (arith, along.few, ap part_count split, parts_length slot rest parts (take k (drop at text)));
     }
 

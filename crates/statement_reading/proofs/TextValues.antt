@@ -4,12 +4,12 @@ use Rattle.std.specs.List.{flat_map, list_all}
 use Rattle.std.proofs.lemmas.Bool.Decides.{nat_tests}
 use Rattle.std.proofs.lemmas.List.{append_cancel_right}
 use Rattle.grammar.specs.Language.{Fixed, One, Then, Or, Times, Many, Nothing}
-use Rattle.sql_literals.specs.Literal.{is_special, letter_of, escaped_byte, quoted}
-use Rattle.sql_literals.specs.Spelling.{letter_value, unescaped}
+use Rattle.sql_cells.specs.Literal.{is_special, letter_of, escaped_byte, text_literal}
+use Rattle.sql_cells.specs.Spelling.{letter_value, text_value}
 use Rattle.sql_literals.proofs.Units.{escaped_back}
 use Rattle.statement_reading.specs.Parts.{is_own, is_written_letter, WrittenEscape, WrittenByte, OpenedText, WrittenText, DigestText}
 use Rattle.statement_reading.specs.Readings.{has_byte}
-use Rattle.sql_statements.specs.Statement.{is_lower_digit, IsDigest}
+use Rattle.statement_forms.specs.Statement.{is_lower_digit, IsDigest}
 use Rattle.statement_reading.proofs.NameValues.{inner_of, outer_size}
 
 letter_back : (l : ℕ) → is_written_letter l ≡ true → is_special (letter_value l) ≡ true
@@ -41,7 +41,7 @@ bytes_of (suc n) t (a, b, e, one, more) =
     (c ∷ v, e ∙ ap (λ x. x ++ b) is ∙ ap (λ x. escaped_byte c ++ x) rest)
 
 -- A text literal is written for some text.
-pub text_of : (t : List ℕ) → WrittenText t → (v : List ℕ) × (t ≡ quoted v)
+pub text_of : (t : List ℕ) → WrittenText t → (v : List ℕ) × (t ≡ text_literal v)
 unfolding WrittenText OpenedText Then Fixed Many
 text_of t (x, y, e, (a, b, split, begin, (n, bytes)), close) =
     let (v, is) = bytes_of n b bytes in
@@ -63,14 +63,14 @@ bytes_text [] = (0, refl)
 bytes_text (c ∷ v) = let (n, more) = bytes_text v in (suc n, (escaped_byte c, flat_map escaped_byte v, refl, byte_text c, more))
 
 -- The literal that is written for a text is a text literal.
-pub text_text : (v : List ℕ) → WrittenText (quoted v)
+pub text_text : (v : List ℕ) → WrittenText (text_literal v)
 unfolding WrittenText OpenedText Then Fixed
 text_text v = (39 ∷ flat_map escaped_byte v, 39 ∷ [], refl, (39 ∷ [], flat_map escaped_byte v, refl, refl, bytes_text v), refl)
 
 same_texts : (u v : List ℕ) → flat_map escaped_byte u ≡ flat_map escaped_byte v → u ≡ v
-same_texts u v e = sym (escaped_back u) ∙ ap unescaped e ∙ escaped_back v
+same_texts u v e = sym (escaped_back u) ∙ ap text_value e ∙ escaped_back v
 
-pub one_text : (u v : List ℕ) → quoted u ≡ quoted v → u ≡ v
+pub one_text : (u v : List ℕ) → text_literal u ≡ text_literal v → u ≡ v
 one_text u v e = same_texts u v (append_cancel_right (flat_map escaped_byte u) (flat_map escaped_byte v) (39 ∷ []) (cc))
 
 -- what stands between the quotes
@@ -78,14 +78,14 @@ one_text u v e = same_texts u v (append_cancel_right (flat_map escaped_byte u) (
 pub text_size : (t : List ℕ) → WrittenText t → 2 ≤ length t
 text_size t written = let (v, is) = text_of t written in subst (λ l. 2 ≤ length l) (sym is) (outer_size 39 39 (flat_map escaped_byte v))
 
-text_inner : (t v : List ℕ) → t ≡ quoted v → take (length t - 1 - 1) (drop 1 t) ≡ flat_map escaped_byte v
+text_inner : (t v : List ℕ) → t ≡ text_literal v → take (length t - 1 - 1) (drop 1 t) ≡ flat_map escaped_byte v
 text_inner t v is = rw is (inner_of 39 39 (flat_map escaped_byte v))
 
-pub text_made : (t made : List ℕ) → WrittenText t → made ≡ unescaped (take (length t - 1 - 1) (drop 1 t)) → quoted made ≡ t
+pub text_made : (t made : List ℕ) → WrittenText t → made ≡ text_value (take (length t - 1 - 1) (drop 1 t)) → text_literal made ≡ t
 text_made t made written e =
     let (v, is) = text_of t written in
-    let same : made ≡ v = e ∙ ap unescaped (text_inner t v is) ∙ escaped_back v in
-    ap quoted same ∙ sym is
+    let same : made ≡ v = e ∙ ap text_value (text_inner t v is) ∙ escaped_back v in
+    ap text_literal same ∙ sym is
 
 no_escape : (c : ℕ) (u : List ℕ) (s : Bool) → is_special c ≡ s → has_byte 92 (cond s (92 ∷ letter_of c ∷ []) (c ∷ []) ++ u) ≡ false → (s ≡ false) × (has_byte 92 u ≡ false)
 no_escape c u true is none = absurd (cc none)
@@ -101,12 +101,12 @@ unescaped_same (c ∷ v) none =
     ap (λ s. cond s (92 ∷ letter_of c ∷ []) (c ∷ []) ++ flat_map escaped_byte v) there.0 ∙ ap (λ l. c ∷ l) (unescaped_same v there.1)
 
 -- Without a backslash inside, the inner bytes are the text.
-pub text_inside : (t : List ℕ) → WrittenText t → has_byte 92 (take (length t - 1 - 1) (drop 1 t)) ≡ false → quoted (take (length t - 1 - 1) (drop 1 t)) ≡ t
+pub text_inside : (t : List ℕ) → WrittenText t → has_byte 92 (take (length t - 1 - 1) (drop 1 t)) ≡ false → text_literal (take (length t - 1 - 1) (drop 1 t)) ≡ t
 text_inside t written none =
     let (v, is) = text_of t written in
     let inner : take (length t - 1 - 1) (drop 1 t) ≡ flat_map escaped_byte v = text_inner t v is in
     let same : flat_map escaped_byte v ≡ v = unescaped_same v (subst (λ l. has_byte 92 l ≡ false) inner none) in
-    ap quoted (inner ∙ same) ∙ sym is
+    ap text_literal (inner ∙ same) ∙ sym is
 
 -- digests
 
@@ -148,11 +148,11 @@ plain_digits (c ∷ t) all =
     ap (λ s. cond s (92 ∷ letter_of c ∷ []) (c ∷ []) ++ flat_map escaped_byte t) (digit_plain c both.0) ∙ ap (λ l. c ∷ l) (plain_digits t both.1)
 
 -- Nothing is escaped in a digest.
-pub digest_quoted : (t : List ℕ) → IsDigest t → quoted t ≡ 39 ∷ t ++ 39 ∷ []
+pub digest_quoted : (t : List ℕ) → IsDigest t → text_literal t ≡ 39 ∷ t ++ 39 ∷ []
 digest_quoted t digest = ap (λ l. 39 ∷ l ++ 39 ∷ []) (plain_digits t digest.1)
 
 -- A digest between quotes, with the quotes as parts of the words.
-pub digest_spelled : (w v tail : List ℕ) → IsDigest v → w ++ quoted v ++ tail ≡ (w ++ 39 ∷ []) ++ v ++ (39 ∷ tail)
+pub digest_spelled : (w v tail : List ℕ) → IsDigest v → w ++ text_literal v ++ tail ≡ (w ++ 39 ∷ []) ++ v ++ (39 ∷ tail)
 digest_spelled w v tail digest = ap (λ l. w ++ l ++ tail) (digest_quoted v digest) ∙ regrouped w v tail where
   regrouped : (w v tail : List ℕ) → w ++ (39 ∷ v ++ 39 ∷ []) ++ tail ≡ (w ++ 39 ∷ []) ++ v ++ (39 ∷ tail)
   regrouped w v tail = simp append_assoc

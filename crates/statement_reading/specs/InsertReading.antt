@@ -1,19 +1,19 @@
 -- INSERT statements as they are read, part by part.
 use Rattle.std.specs.Prelude.{◌≡◌, ℕ, ◌+◌, ◌-◌, ◌≤◌, List, ◌++◌, codes, length, take, drop, Result, Ok, Err}
 use Rattle.grammar.specs.Language.{Language, Fixed, Then, Times}
-use Rattle.sql_literals.specs.Spelling.{Literal}
-use Rattle.sql_statements.specs.Insert.{NamesAnd, NextLiteral, Row, NextRow, Rows}
+use Rattle.sql_cells.specs.Spelling.{Literal}
+use Rattle.statement_forms.specs.Insert.{NamesAnd, NextLiteral, Row, NextRow, Rows}
 use Rattle.statement_reading.specs.declared.insert.FilledSize.{FilledSize}
 use Rattle.statement_reading.specs.declared.insert.Run.{Run}
 
--- so many literals, each behind a comma, and a closing parenthesis
+-- so many literals, each after a comma, and a closing parenthesis
 unfoldable pub RowRest : ℕ → Language
 RowRest more = Then (Times NextLiteral more) (Fixed (codes ")"))
 
 unfoldable pub RowInside : ℕ → Language
 RowInside more = Then Literal (RowRest more)
 
--- the words behind the columns, and rows
+-- the words after the columns, and rows
 unfoldable pub Values : ℕ → Language
 Values more = Then (Fixed (codes ") VALUES\n")) (Rows more)
 
@@ -32,7 +32,7 @@ pub record IsRows (more count : ℕ) (text : List ℕ) : Type 0 where
   pub filled : Then (Row more) (Times (NextRow more) others) text
   pub count_is : count ≡ others + 1
 
--- the same behind the words
+-- the same after the words
 pub record HasValues (more count : ℕ) (text : List ℕ) : Type 0 where
   pub body : List ℕ
   pub text_is : text ≡ codes ") VALUES\n" ++ body

@@ -2,9 +2,9 @@
 use Rattle.std.specs.Prelude.{◌≡◌, ℕ, ◌<◌, ◌≤◌, ◌^◌, ◌==◌, ◌&&◌, ◌||◌, nat_le, if◌then◌else◌, Bool, true, false, ℤ, [], ◌∷◌, decimal}
 use Rattle.std.specs.Fmt.{signed_decimal}
 use Rattle.grammar.specs.Language.{Language, Fixed, One, Then, Or, Times, Many}
-use Rattle.sql_literals.specs.Literal.{is_special}
-use Rattle.sql_statements.specs.Insert.{QuotedName, NextName}
-use Rattle.sql_statements.specs.Statement.{is_lower_digit, IsI128}
+use Rattle.sql_cells.specs.Literal.{is_special}
+use Rattle.statement_forms.specs.Insert.{QuotedName, NextName}
+use Rattle.statement_forms.specs.Statement.{is_lower_digit, IsI128}
 use Rattle.statement_reading.specs.declared.reading.kind.PartKind.{PartKind}
 use Rattle.statement_reading.specs.declared.reading.kind.PartKind.TheVariants.{Name, NameList, TextLiteral, Digest, Count, Bound}
 
@@ -16,7 +16,7 @@ Names = Then QuotedName (Many NextName)
 abbrev pub is_own : ℕ → Bool
 is_own byte = if is_special byte then false else true
 
--- the letters that are written behind a backslash: 0 n r Z " ' \
+-- the letters that are written after a backslash: 0 n r Z " ' \
 abbrev pub is_written_letter : ℕ → Bool
 is_written_letter byte = byte == 48 || byte == 110 || byte == 114 || byte == 90 || byte == 34 || byte == 39 || byte == 92
 

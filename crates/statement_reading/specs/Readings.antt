@@ -2,12 +2,12 @@
 use Rattle.std.specs.Prelude.{◌≡◌, ℕ, ◌≤◌, ◌==◌, Bool, List, Result, Ok, Err}
 use Rattle.std.specs.List.{flat_map, list_any}
 use Rattle.grammar.specs.Language.{Language, Refused}
-use Rattle.sql_literals.specs.Name.{name_byte}
-use Rattle.sql_statements.specs.Statement.{IsTextOf, row_of}
+use Rattle.sql_cells.specs.Name.{name_byte}
+use Rattle.statement_forms.specs.Statement.{IsTextOf, row_of}
 use Rattle.statement_reading.specs.declared.fault.StatementFault.{StatementFault}
 use Rattle.statement_reading.specs.declared.fault.StatementFault.TheVariants.{BadStatement, OutOfMemory}
 use Rattle.statement_reading.specs.declared.reading.numbers.Number.{Number}
-use Rattle.sql_statements.specs.declared.statement.Statement.{Statement}
+use Rattle.statement_forms.specs.declared.statement.Statement.{Statement}
 
 -- the reading without the number
 abbrev pub number_size : Result Number ℕ → Result ℕ ℕ

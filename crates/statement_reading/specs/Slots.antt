@@ -25,7 +25,7 @@ place_of (Again index) = again index
 abbrev pub places : List Slot → List Place
 places slots = map place_of slots
 
--- what may stand in a slot behind the parts before it
+-- what may stand in a slot after the parts before it
 abbrev pub slot_language : Place → List (List ℕ) → Language
 slot_language (word bytes) before = Fixed bytes
 slot_language (part kind) before = part_language kind
@@ -37,7 +37,7 @@ parts_with (word bytes) before text = before
 parts_with (part kind) before text = before ++ text ∷ []
 parts_with (again index) before text = before
 
--- what stands in slots one behind another, behind the parts before them
+-- what stands in slots one after another, after the parts before them
 unfoldable pub Shaped : List Place → List (List ℕ) → Language
 Shaped [] before = Nothing
 Shaped (slot ∷ slots) before = Next (slot_language slot before) (λ text. Shaped slots (parts_with slot before text))

@@ -9,7 +9,7 @@ use thiserror::Error;
 pub enum StatementFault {
     /// The text is no statement's. The number is the length of the longest prefix with which some
     /// statement's text begins.
-    #[error("no statement: the text leaves them behind {0} bytes")]
+    #[error("no statement: the text leaves them after {0} bytes")]
     BadStatement(usize),
     /// Memory ran out.
     #[error("out of memory")]

@@ -1,13 +1,13 @@
 // The INSERT statements of data files, checked against their grammar.
 ghost use Rattle.std.specs.Prelude.{◌≡◌, ℕ, ◌++◌, ◌≤◌, codes, take, IfOk, MatchResult};
 ghost use Rattle.grammar.specs.Language.{Reads, Refused, Fixed, Then, Many, Times};
-ghost use Rattle.sql_literals.specs.Name.{name_byte, quoted_name};
-ghost use Rattle.sql_statements.specs.Insert.{QuotedName, NamesAnd, NextName, NextLiteral, Row, NextRow, Rows, Filled, AnyInsert, InsertInto, HasRows};
+ghost use Rattle.sql_cells.specs.Name.{name_byte, quoted_name};
+ghost use Rattle.statement_forms.specs.Insert.{QuotedName, NamesAnd, NextName, NextLiteral, Row, NextRow, Rows, Filled, AnyInsert, InsertInto, HasRows};
 ghost use Rattle.statement_reading.specs.InsertReading.{RowInside, RowRest, Values, IsRows, HasValues, IsFilled, run_size, filled_size};
 ghost use Rattle.statement_reading.specs.Parts.{Names};
 
 use crate::reading::names::{read_name, read_next_name};
-use grammar::{behind, read_fixed};
+use grammar::{after, read_fixed};
 use sql_literals::read_literal;
 
 /// What an INSERT has: how many rows, and the columns as they are named in it, between the
@@ -18,14 +18,14 @@ pub struct InsertParts<'a> {
     pub columns: &'a [u8],
 }
 
-// So many texts one behind another, and how many bytes they have.
+// So many texts one after another, and how many bytes they have.
 #[derive(Clone, Copy)]
 pub(crate) struct Run {
     pub(crate) count: u64,
     pub(crate) size: usize,
 }
 
-// The columns and rows of an INSERT: where the columns end, behind the space and the parenthesis, how
+// The columns and rows of an INSERT: where the columns end, after the space and the parenthesis, how
 // many rows there are, and how many bytes in all.
 #[derive(Clone, Copy)]
 pub(crate) struct FilledSize {
@@ -39,10 +39,10 @@ fn read_next_literal(bytes: &[u8]) -> Result<usize, usize>
     ensures { Reads NextLiteral bytes.now result }
 {
     let comma = read_fixed(bytes, b",")?;
-    behind(comma, read_literal(&bytes[comma..]))
+    after(comma, read_literal(&bytes[comma..]))
 }
 
-// So many literals, each behind a comma, and the closing parenthesis.
+// So many literals, each after a comma, and the closing parenthesis.
 fn read_row_rest(bytes: &[u8], more: u64) -> Result<usize, usize>
     ensures { Reads (RowRest more) bytes.now result }
 {
@@ -53,14 +53,14 @@ fn read_row_rest(bytes: &[u8], more: u64) -> Result<usize, usize>
             Err(place) => return Err(at + place),
         }
     }
-    behind(at, read_fixed(&bytes[at..], b")"))
+    after(at, read_fixed(&bytes[at..], b")"))
 }
 
 fn read_row_inside(bytes: &[u8], more: u64) -> Result<usize, usize>
     ensures { Reads (RowInside more) bytes.now result }
 {
     let first = read_literal(bytes)?;
-    behind(first, read_row_rest(&bytes[first..], more))
+    after(first, read_row_rest(&bytes[first..], more))
 }
 
 // One more than so many literals, in parentheses.
@@ -68,17 +68,17 @@ fn read_row(bytes: &[u8], more: u64) -> Result<usize, usize>
     ensures { Reads (Row more) bytes.now result }
 {
     let begin = read_fixed(bytes, b"(")?;
-    behind(begin, read_row_inside(&bytes[begin..], more))
+    after(begin, read_row_inside(&bytes[begin..], more))
 }
 
 fn read_next_row(bytes: &[u8], more: u64) -> Result<usize, usize>
     ensures { Reads (NextRow more) bytes.now result }
 {
     let comma = read_fixed(bytes, b",\n")?;
-    behind(comma, read_row(&bytes[comma..], more))
+    after(comma, read_row(&bytes[comma..], more))
 }
 
-// The rows behind the first.
+// The rows after the first.
 fn read_next_rows(bytes: &[u8], more: u64) -> Result<Run, usize>
     ensures reads { Reads (Many (NextRow more)) bytes.now (run_size result) }
     ensures rows { IfOk result (λ run. Times (NextRow more) run.count (take run.size bytes.now) × (run.count ≤ run.size)) }
@@ -97,7 +97,7 @@ fn read_next_rows(bytes: &[u8], more: u64) -> Result<Run, usize>
     }
 }
 
-// The names behind the first.
+// The names after the first.
 fn read_counted_names(bytes: &[u8]) -> Result<Run, usize>
     ensures reads { Reads (Many NextName) bytes.now (run_size result) }
     ensures names { IfOk result (λ run. Times NextName run.count (take run.size bytes.now) × (run.count ≤ run.size)) }
@@ -146,7 +146,7 @@ fn read_rows(bytes: &[u8], more: u64) -> Result<Run, usize>
     }
 }
 
-// The words behind the columns, and rows.
+// The words after the columns, and rows.
 fn read_values(bytes: &[u8], more: u64) -> Result<Run, usize>
     ensures reads { Reads (Values more) bytes.now (run_size result) }
     ensures rows { IfOk result (λ run. HasValues more run.count (take run.size bytes.now)) }
@@ -182,7 +182,7 @@ fn read_filled(bytes: &[u8]) -> Result<FilledSize, usize>
     }
 }
 
-// The table's name, and all behind it.
+// The table's name, and all after it.
 fn read_named(bytes: &[u8]) -> Result<usize, usize>
     ensures { Reads (Then QuotedName Filled) bytes.now result }
 {
@@ -197,7 +197,7 @@ fn read_any_insert(bytes: &[u8]) -> Result<usize, usize>
     ensures { Reads AnyInsert bytes.now result }
 {
     let word = read_fixed(bytes, b"INSERT INTO ")?;
-    behind(word, read_named(&bytes[word..]))
+    after(word, read_named(&bytes[word..]))
 }
 
 /// Whether the text is an INSERT into some table.
@@ -233,14 +233,14 @@ fn read_this_name(bytes: &[u8], name: &[u8]) -> Result<usize, usize>
             Err(place) => return Err(at + place),
         }
     }
-    behind(at, read_fixed(&bytes[at..], b"`"))
+    after(at, read_fixed(&bytes[at..], b"`"))
 }
 
 fn read_insert_into(bytes: &[u8], table: &[u8]) -> Result<usize, usize>
     ensures { Reads (Fixed (codes "INSERT INTO " ++ quoted_name table.now)) bytes.now result }
 {
     let word = read_fixed(bytes, b"INSERT INTO ")?;
-    behind(word, read_this_name(&bytes[word..], table))
+    after(word, read_this_name(&bytes[word..], table))
 }
 
 /// The rows and the columns of an INSERT into this table. `Err` is the place where the text leaves

@@ -3,12 +3,12 @@ ghost use Rattle.std.specs.Prelude.{◌≡◌, ℕ, IfOk};
 ghost use Rattle.grammar.specs.Language.{Refused};
 ghost use Rattle.statement_reading.specs.Kinds.{kind_row};
 ghost use Rattle.statement_reading.specs.Readings.{IsRead, InRow};
-ghost use Rattle.sql_statements.specs.Statement.{IsReadAs, Statements};
+ghost use Rattle.statement_forms.specs.Statement.{IsReadAs, Statements};
 
 use crate::fault::StatementFault;
 use crate::reading::commands::{CommandKind, read_command};
 use crate::reading::query_kinds::{QueryKind, read_query};
-use sql_statements::Statement;
+use statement_forms::Statement;
 use std::alloc::Global;
 
 /// Which statement it is.

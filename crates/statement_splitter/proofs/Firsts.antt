@@ -52,8 +52,8 @@ module _ (first : ℕ) (word bytes : List ℕ) where
   pub first_is : (from at : ℕ) → Until (is_byte first) bytes from at → at < length bytes → get_or bytes at 0 ≡ first
   first_is from at until inside = let is = until.passes inside in grind (arith, nat_tests)
 
-  pub none_behind : (from at : ℕ) → Until (is_byte first) bytes from at → at ≡ length bytes → GoesOn (before_mark (first ∷ word)) (before_mark (first ∷ word)) bytes from at × (is_front_of (first ∷ word) (drop at bytes) ≡ true)
-  none_behind from at until all = (first_goes from at until, ap (is_front_of (first ∷ word)) (drop_all at bytes (omega arith)) ∙ front_empty first word)
+  pub none_after : (from at : ℕ) → Until (is_byte first) bytes from at → at ≡ length bytes → GoesOn (before_mark (first ∷ word)) (before_mark (first ∷ word)) bytes from at × (is_front_of (first ∷ word) (drop at bytes) ≡ true)
+  none_after from at until all = (first_goes from at until, ap (is_front_of (first ∷ word)) (drop_all at bytes (omega arith)) ∙ front_empty first word)
 
   pub mark_ends : (from at : ℕ) → Until (is_byte first) bytes from at → at < length bytes → begins word (drop (at + 1) bytes) ≡ true → Ends (before_mark (first ∷ word)) bytes from at (length (first ∷ word))
   mark_ends from at until inside rest =

@@ -2,7 +2,7 @@
 use Rattle.std.proofs.Common.{◌≡◌, ℕ, zero, suc, ◌+◌, ◌-◌, ◌<◌, ◌≤◌, Bool, true, false, List, [], ◌∷◌, ◌++◌, length, get_or, take, drop, Option, Some, None, refl, sym, ap, ◌∙◌, arith, subst, length-append}
 use Rattle.std.proofs.lemmas.List.{length-drop, length-take, drop-append-le, get_or_append_left, append-nil, append_assoc, drop_all}
 use Rattle.statement_splitter.specs.Scan.{before_semicolon, before_mark, dollar_line, end_size, plus}
-use Rattle.statement_splitter.specs.Pieces.{begins, is_front_of, opening, Unread, with_more, behind, ends_line, Next, unended, none, Step, found, further, statement_next, passed, comment_step, step_by, step, next_within, next, size_of, PassesLimit}
+use Rattle.statement_splitter.specs.Pieces.{begins, is_front_of, opening, Unread, with_more, after, ends_line, Next, unended, none, Step, found, further, statement_next, passed, comment_step, step_by, step, next_within, next, size_of, PassesLimit}
 use Rattle.statement_splitter.specs.State.{GoesOn, Ends, size_from, MayEnd, InComment, InStatement, LeastSize, IsEnded}
 use Rattle.statement_splitter.specs.declared.delimiter.Delimiter.{Delimiter}
 use Rattle.statement_splitter.specs.declared.delimiter.Delimiter.TheVariants.{Semicolon, Dollars}
@@ -46,17 +46,17 @@ fuel zero m u a b = absurd (omega arith)
 fuel (suc n) zero u a b = absurd (omega arith)
 fuel (suc n) (suc m) u a b = by_fuel n m (step u) (λ v is. fuel n m v (omega (arith, step_shorter u v is)) (omega (arith, step_shorter u v is)))
 
-after : Step → Next
-after (found x) = x
-after (further u) = next u
+next_after : Step → Next
+next_after (found x) = x
+next_after (further u) = next u
 
-is_by : (u : Unread) (s : Step) → step u ≡ s → (elim s as (λ _. Next) [ found x ↦ x | further v ↦ next_within (length u.rest) v ]) ≡ after s
-unfolding next after
+is_by : (u : Unread) (s : Step) → step u ≡ s → (elim s as (λ _. Next) [ found x ↦ x | further v ↦ next_within (length u.rest) v ]) ≡ next_after s
+unfolding next next_after
 is_by u (found x) is = refl
 is_by u (further v) is = fuel (length u.rest) (suc (length v.rest)) v (step_shorter u v is) (omega arith)
 
-next_is : (u : Unread) → next u ≡ after (step u)
-unfolding next after
+next_is : (u : Unread) → next u ≡ next_after (step u)
+unfolding next next_after
 next_is u = is_by u (step u) refl
 
 pub no_more : (u : Unread) → with_more [] u ≡ u
@@ -66,23 +66,23 @@ pub more_twice : (a b : List ℕ) (u : Unread) → with_more b (with_more a u) �
 more_twice a b u = ap (λ rest. record u { rest = rest }) (append_assoc u.rest a b)
 
 -- what is passed over is so with more bytes
-pub passes_more : (n : ℕ) (u : Unread) (more : List ℕ) → 0 < n → n ≤ length u.rest → passed n (with_more more u) ≡ further (with_more more (behind n (ends_line n u.rest) u.ending u))
+pub passes_more : (n : ℕ) (u : Unread) (more : List ℕ) → 0 < n → n ≤ length u.rest → passed n (with_more more u) ≡ further (with_more more (after n (ends_line n u.rest) u.ending u))
 passes_more n u more some room =
     let rest : drop n (u.rest ++ more) ≡ drop n u.rest ++ more = drop-append-le n u.rest more room in
     let last : get_or (u.rest ++ more) (n - 1) 0 ≡ get_or u.rest (n - 1) 0 = get_or_append_left u.rest more 0 (n - 1) (omega arith) in
     cc
 
 pub onward_further : (u v : Unread) → ((more : List ℕ) → step (with_more more u) ≡ further (with_more more v)) → (more : List ℕ) → next (with_more more u) ≡ next (with_more more v)
-unfolding after
-onward_further u v h more = next_is (with_more more u) ∙ ap after (h more)
+unfolding next_after
+onward_further u v h more = next_is (with_more more u) ∙ ap next_after (h more)
 
 pub found_here : (u : Unread) (x : Next) → step u ≡ found x → next u ≡ x
-unfolding after
-found_here u x is = next_is u ∙ ap after is
+unfolding next_after
+found_here u x is = next_is u ∙ ap next_after is
 
 pub further_here : (u v : Unread) → step u ≡ further v → next u ≡ next v
-unfolding after
-further_here u v is = next_is u ∙ ap after is
+unfolding next_after
+further_here u v is = next_is u ∙ ap next_after is
 
 no_mark_by : (word : List ℕ) (b : ℕ) (bs : List ℕ) (here : Bool) → begins word (b ∷ bs) ≡ here → length (b ∷ bs) < length word → before_mark word bs ≡ None → before_mark word (b ∷ bs) ≡ None
 no_mark_by word b bs true is short rest = absurd (omega (arith, begins_long word (b ∷ bs) is))
@@ -93,9 +93,9 @@ short_no_mark word [] short = refl
 short_no_mark word (b ∷ bs) short = no_mark_by word b bs (begins word (b ∷ bs)) refl short (short_no_mark word bs (omega arith))
 
 -- a comment that is ended
-pub comment_over : (u : Unread) (scanned : ℕ) (word : List ℕ) (to : ℕ) → 0 < length word → InComment u scanned word → Ends (before_mark word) u.rest scanned to (length word) → (more : List ℕ) → next (with_more more u) ≡ next (with_more more (behind (to + length word) (ends_line (to + length word) u.rest) u.ending u))
+pub comment_over : (u : Unread) (scanned : ℕ) (word : List ℕ) (to : ℕ) → 0 < length word → InComment u scanned word → Ends (before_mark word) u.rest scanned to (length word) → (more : List ℕ) → next (with_more more u) ≡ next (with_more more (after (to + length word) (ends_line (to + length word) u.rest) u.ending u))
 comment_over u scanned word to some comment ends =
-    onward_further u (behind (to + length word) (ends_line (to + length word) u.rest) u.ending u) (λ more.
+    onward_further u (after (to + length word) (ends_line (to + length word) u.rest) u.ending u) (λ more.
     comment.steps more ∙ ap (comment_step (with_more more u) word) (ends.finds more) ∙ passes_more (to + length word) u more (omega arith) ends.high)
 
 -- a comment that is scanned further
@@ -140,7 +140,7 @@ statement_open u scanned within statement may =
     statement_is u scanned within statement [] ∙ ap (λ t. statement_next (with_more [] u) (plus scanned (size_from u.ending within t))) (append-nil (drop scanned u.rest)) ∙ ap (λ size. statement_next (with_more [] u) (plus scanned size)) (none_yet u.ending within u.rest scanned may) in
     subst (λ v. next v ≡ unended v) (no_more u) here
 
--- how many bytes a statement has that is ended behind so many, or isn't
+-- how many bytes a statement has that is ended after so many, or isn't
 least_size : (u : Unread) (least : ℕ) (found : Option ℕ) → least ≤ length u.rest → (size : ℕ) × (size_of (statement_next u (plus least found)) ≡ Some size) × (least ≤ size)
 least_size u least None inside = (length u.rest, refl, inside)
 least_size u least (Some n) inside = (length (take (least + n) u.rest), refl, omega (arith, length-take (least + n) u.rest))

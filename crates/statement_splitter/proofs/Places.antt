@@ -2,7 +2,7 @@
 use Rattle.std.proofs.Common.{◌≡◌, ◌≢◌, ℕ, ◌+◌, ◌<◌, ◌≤◌, ◌^◌, Bool, true, List, ◌++◌, length, take, drop, sym, ap, ◌∙◌, arith, subst, length-append}
 use Rattle.std.proofs.lemmas.List.{length-drop, drop-drop, drop-append-le, drop_all, take-append-le, append_assoc}
 use Rattle.statement_splitter.specs.Scan.{before_mark, size_in, end_size, is_line, plus}
-use Rattle.statement_splitter.specs.Pieces.{opening, GivesPiece, mark_of, Unread, with_more, behind, ends_line, waiting, none, further, comment_step, step_by, step, next}
+use Rattle.statement_splitter.specs.Pieces.{opening, GivesPiece, mark_of, Unread, with_more, after, ends_line, waiting, none, further, comment_step, step_by, step, next}
 use Rattle.statement_splitter.specs.State.{Ends, size_from, unread_at, InComment, InStatement, IsEnded, IsPlace, PassesOver, Known}
 use Rattle.statement_splitter.specs.declared.delimiter.Delimiter.{Delimiter}
 use Rattle.statement_splitter.specs.declared.delimiter.Delimiter.TheVariants.{Semicolon, Dollars}
@@ -24,8 +24,8 @@ use Rattle.statement_splitter.proofs.Nexts.{more_twice, passes_more, onward_furt
 abbrev pub moved : Place → ℕ → Bool → Delimiter → Place
 moved place n fresh ending = record { at = place.at + n; offset = place.offset + n; fresh = fresh; ending = ending; begun = Unknown; scanned = 0 }
 
-pub moved_unread : (bytes : List ℕ) (place : Place) (n : ℕ) (fresh : Bool) (ending : Delimiter) → behind n fresh ending (unread_at bytes place) ≡ unread_at bytes (moved place n fresh ending)
-moved_unread bytes place n fresh ending = ap (λ rest. record (behind n fresh ending (unread_at bytes place)) { rest = rest }) (drop-drop n place.at bytes)
+pub moved_unread : (bytes : List ℕ) (place : Place) (n : ℕ) (fresh : Bool) (ending : Delimiter) → after n fresh ending (unread_at bytes place) ≡ unread_at bytes (moved place n fresh ending)
+moved_unread bytes place n fresh ending = ap (λ rest. record (after n fresh ending (unread_at bytes place)) { rest = rest }) (drop-drop n place.at bytes)
 
 pub moved_place : (bytes : List ℕ) (place : Place) (n : ℕ) (fresh : Bool) (ending : Delimiter) → IsPlace bytes place → n ≤ length (drop place.at bytes) → IsPlace bytes (moved place n fresh ending)
 moved_place bytes place n fresh ending is room = record {
@@ -39,7 +39,7 @@ pub record IsOver (bytes : List ℕ) (old : Place) (n : ℕ) (fresh : Bool) (end
   pub is : IsPlace bytes old
   pub some : 0 < n
   pub room : n ≤ length (drop old.at bytes)
-  pub onward : (more : List ℕ) → next (with_more more (unread_at bytes old)) ≡ next (with_more more (behind n fresh ending (unread_at bytes old)))
+  pub onward : (more : List ℕ) → next (with_more more (unread_at bytes old)) ≡ next (with_more more (after n fresh ending (unread_at bytes old)))
 
 pub over : (bytes : List ℕ) (old new : Place) (n : ℕ) (fresh : Bool) (ending : Delimiter) → IsOver bytes old n fresh ending → new ≡ moved old n fresh ending → PassesOver bytes old new
 over bytes old new n fresh ending h is =
@@ -114,17 +114,17 @@ module _ (u : Unread) where
   comment_bare size end is all =
       found_here u (none u) (ap (step_by u) is ∙ ap (λ t. comment_step u (mark_of end) (plus size (before_mark (mark_of end) t))) (drop_all size u.rest (omega arith)))
 
-  white_goes : opening u.fresh u.rest ≡ White → (more : List ℕ) → next (with_more more u) ≡ next (with_more more (behind 1 (ends_line 1 u.rest) u.ending u))
+  white_goes : opening u.fresh u.rest ≡ White → (more : List ℕ) → next (with_more more u) ≡ next (with_more more (after 1 (ends_line 1 u.rest) u.ending u))
   white_goes is =
       let some : 0 < length u.rest = room White is in
-      onward_further u (behind 1 (ends_line 1 u.rest) u.ending u) (λ more. ap (step_by (with_more more u)) (sure White is tt more) ∙ passes_more 1 u more (omega arith) (omega arith))
+      onward_further u (after 1 (ends_line 1 u.rest) u.ending u) (λ more. ap (step_by (with_more more u)) (sure White is tt more) ∙ passes_more 1 u more (omega arith) (omega arith))
 
-  line_goes : (size : ℕ) (ending : Delimiter) → opening u.fresh u.rest ≡ DelimiterLine size ending → (more : List ℕ) → next (with_more more u) ≡ next (with_more more (behind size true ending u))
+  line_goes : (size : ℕ) (ending : Delimiter) → opening u.fresh u.rest ≡ DelimiterLine size ending → (more : List ℕ) → next (with_more more u) ≡ next (with_more more (after size true ending u))
   line_goes size ending is =
       let fits = line_room size ending is in
-      onward_further u (behind size true ending u) (λ more.
+      onward_further u (after size true ending u) (λ more.
       ap (step_by (with_more more u)) (sure (DelimiterLine size ending) is tt more)
-      ∙ ap (λ t. further (record (behind size true ending (with_more more u)) { rest = t })) (drop-append-le size u.rest more fits.1))
+      ∙ ap (λ t. further (record (after size true ending (with_more more u)) { rest = t })) (drop-append-le size u.rest more fits.1))
 
 pub white_over : (bytes : List ℕ) (old : Place) → IsPlace bytes old → opening old.fresh (drop old.at bytes) ≡ White → IsOver bytes old 1 (ends_line 1 (drop old.at bytes)) old.ending
 white_over bytes old is opens = record {

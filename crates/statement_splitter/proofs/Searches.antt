@@ -4,7 +4,7 @@ use Rattle.std.specs.Prelude.{nat_eq}
 use Rattle.std.specs.List.{prefix_len}
 use Rattle.std.proofs.lemmas.Bool.Decides.{nat_tests}
 use Rattle.std.proofs.lemmas.List.{drop_more, length-drop, length-replicate}
-use Rattle.statement_splitter.specs.Scan.{behind_byte, is_text, before_semicolon, before_mark, dollar_line, plus}
+use Rattle.statement_splitter.specs.Scan.{after_byte, is_text, before_semicolon, before_mark, dollar_line, plus}
 use Rattle.statement_splitter.specs.Pieces.{begins, is_front_of, is_dollar}
 use Rattle.statement_splitter.specs.State.{IsPlain, PlainRun, GoesOn, Ends}
 use Rattle.statement_splitter.specs.declared.within.Within.{Within}
@@ -53,8 +53,8 @@ one_step f g bytes at h step = record {
 }
 
 -- a byte of a statement that doesn't end it
-pub semicolon_step : (within : Within) (bytes : List ℕ) (at : ℕ) → at < length bytes → (get_or bytes at 0 == 59 && is_text within) ≡ false → GoesOn (before_semicolon within) (before_semicolon (behind_byte within (get_or bytes at 0))) bytes at (at + 1)
-semicolon_step within bytes at h other = one_step (before_semicolon within) (before_semicolon (behind_byte within (get_or bytes at 0))) bytes at h (λ rest. rw other)
+pub semicolon_step : (within : Within) (bytes : List ℕ) (at : ℕ) → at < length bytes → (get_or bytes at 0 == 59 && is_text within) ≡ false → GoesOn (before_semicolon within) (before_semicolon (after_byte within (get_or bytes at 0))) bytes at (at + 1)
+semicolon_step within bytes at h other = one_step (before_semicolon within) (before_semicolon (after_byte within (get_or bytes at 0))) bytes at h (λ rest. rw other)
 
 pub plain_goes : (within : Within) (bytes : List ℕ) (from to : ℕ) → PlainRun within bytes from to → GoesOn (before_semicolon within) (before_semicolon within) bytes from to
 plain_goes within bytes from to run =

@@ -6,7 +6,7 @@ use Rattle.std.proofs.lemmas.Bool.Decides.{nat_tests}
 use Rattle.std.proofs.lemmas.List.{length-drop, drop-drop, drop_at, drop_all, append_assoc}
 use Rattle.std.proofs.lemmas.List.Folds.{prefix_len-append}
 use Rattle.std.proofs.lemmas.List.Sums.{prefix_len-le-length, prefix_len_passes}
-use Rattle.statement_splitter.specs.Pieces.{is_white, begins, is_front_of, is_dollar, dollars_line, delimiter_line, line_opening, dash_opening, slash_opening, opening, Unread, with_more, behind, next, size_of, step, step_by, further}
+use Rattle.statement_splitter.specs.Pieces.{is_white, begins, is_front_of, is_dollar, dollars_line, delimiter_line, line_opening, dash_opening, slash_opening, opening, Unread, with_more, after, next, size_of, step, step_by, further}
 use Rattle.statement_splitter.specs.declared.delimiter.Delimiter.{Delimiter}
 use Rattle.statement_splitter.specs.declared.delimiter.Delimiter.TheVariants.{Semicolon, Dollars}
 use Rattle.statement_splitter.specs.declared.opening.Opening.{Opening}
@@ -38,8 +38,8 @@ dollars_text dollars = codes "DELIMITER " ++ (dollars ++ codes "$$\n")
 more_of_them : (dollars : List ℕ) → prefix_len is_dollar dollars ≡ length dollars → prefix_len is_dollar (dollars ++ codes "$$\n") ≡ length dollars + 2
 more_of_them dollars all = let e = prefix_len-append is_dollar dollars (codes "$$\n") in grind (arith, nat_tests)
 
-behind_them : (dollars : List ℕ) → drop (length dollars + 2) (dollars ++ codes "$$\n") ≡ 10 ∷ []
-behind_them dollars =
+after_them : (dollars : List ℕ) → drop (length dollars + 2) (dollars ++ codes "$$\n") ≡ 10 ∷ []
+after_them dollars =
     sym (drop-drop 2 (length dollars) (dollars ++ codes "$$\n")) ∙ ap (drop 2) (drop_at dollars (codes "$$\n") (length dollars) refl)
 
 enough : (n : ℕ) → dollars_line (n + 2) (10 ∷ []) ≡ DelimiterLine (11 + (n + 2)) (Dollars (n + 2))
@@ -51,7 +51,7 @@ dollars_opening fresh b bs is dollar all =
     let other : nat_eq 59 b ≡ false = grind (arith, nat_tests) in
     let none : is_front_of (codes ";\n") (b ∷ bs ++ codes "$$\n") ≡ false = front_cons 59 b (10 ∷ []) (bs ++ codes "$$\n") ∙ (rw (same_back 59 b false other)) in
     let count = more_of_them (b ∷ bs) all in
-    let rest = behind_them (b ∷ bs) in
+    let rest = after_them (b ∷ bs) in
     rw is (rw (other, none) (ap (λ k. dollars_line k (drop k (b ∷ bs ++ codes "$$\n"))) count ∙ ap (dollars_line (length (b ∷ bs) + 2)) rest ∙ enough (length (b ∷ bs))))
 
 nothing_left : (u : Unread) → u.rest ≡ [] → size_of (next u) ≡ None
@@ -64,9 +64,9 @@ dollars_settled fresh b bs is dollar all = record {
   none = λ ending offset.
       let u : Unread = record { ending = ending; fresh = fresh; offset = offset; rest = dollars_text (b ∷ bs) } in
       let size : ℕ = length (b ∷ bs) + 2 in
-      let over : step u ≡ further (behind (11 + size) true (Dollars size) u) = ap (step_by u) (dollars_opening fresh b bs is dollar all) in
+      let over : step u ≡ further (after (11 + size) true (Dollars size) u) = ap (step_by u) (dollars_opening fresh b bs is dollar all) in
       let left : drop (11 + size) (dollars_text (b ∷ bs)) ≡ [] = drop_all (11 + size) (dollars_text (b ∷ bs)) (simp length-append (omega arith)) in
-      ap size_of (further_here u (behind (11 + size) true (Dollars size) u) over) ∙ nothing_left (behind (11 + size) true (Dollars size) u) left;
+      ap size_of (further_here u (after (11 + size) true (Dollars size) u) over) ∙ nothing_left (after (11 + size) true (Dollars size) u) left;
 }
 
 -- some bytes after these settle them
@@ -116,20 +116,20 @@ all_dollars : (n : ℕ) (rest : List ℕ) → dollars_line n rest ≡ Undecided 
 all_dollars n [] is = refl
 all_dollars n (b ∷ bs) is = absurd (dollars_sure (nat_le 2 n && b == 10) n is)
 
-delimiter_settles : (fresh : Bool) (bytes behind_word : List ℕ) → fresh ≡ true → codes "DELIMITER " ++ behind_word ≡ bytes → delimiter_line behind_word ≡ Undecided → CanSettle fresh bytes
+delimiter_settles : (fresh : Bool) (bytes after_word : List ℕ) → fresh ≡ true → codes "DELIMITER " ++ after_word ≡ bytes → delimiter_line after_word ≡ Undecided → CanSettle fresh bytes
 unfolding dollars_text
-delimiter_settles fresh bytes behind_word is parts undecided =
-    elim (word_ways (begins (codes ";\n") behind_word) (is_front_of (codes ";\n") behind_word) (DelimiterLine 12 Semicolon) (dollars_line (prefix_len is_dollar behind_word) (drop (prefix_len is_dollar behind_word) behind_word)) undecided) [
+delimiter_settles fresh bytes after_word is parts undecided =
+    elim (word_ways (begins (codes ";\n") after_word) (is_front_of (codes ";\n") after_word) (DelimiterLine 12 Semicolon) (dollars_line (prefix_len is_dollar after_word) (drop (prefix_len is_dollar after_word) after_word)) undecided) [
       | inl w ↦ absurd (let h = w.1 in cc)
       | inr w ↦ elim w [
         | inl front ↦ (
-            let more : List ℕ = drop (length behind_word) (codes ";\n") in
-            let whole = front_completed (codes ";\n") behind_word front in
-            settles_as fresh bytes more (codes "DELIMITER ;\n") (ap (λ t. t ++ more) (sym parts) ∙ append_assoc (codes "DELIMITER ") behind_word more ∙ ap (λ t. codes "DELIMITER " ++ t) whole) (subst (λ f. IsSettled f (codes "DELIMITER ;\n")) (sym is) semicolon_line))
+            let more : List ℕ = drop (length after_word) (codes ";\n") in
+            let whole = front_completed (codes ";\n") after_word front in
+            settles_as fresh bytes more (codes "DELIMITER ;\n") (ap (λ t. t ++ more) (sym parts) ∙ append_assoc (codes "DELIMITER ") after_word more ∙ ap (λ t. codes "DELIMITER " ++ t) whole) (subst (λ f. IsSettled f (codes "DELIMITER ;\n")) (sym is) semicolon_line))
         | inr v ↦ (
-            let none : drop (prefix_len is_dollar behind_word) behind_word ≡ [] = all_dollars (prefix_len is_dollar behind_word) _ v.1 in
-            let all : prefix_len is_dollar behind_word ≡ length behind_word = omega (arith, prefix_len-le-length is_dollar behind_word, length-drop (prefix_len is_dollar behind_word) behind_word, ap length none) in
-            settles_as fresh bytes (codes "$$\n") (dollars_text behind_word) (ap (λ t. t ++ codes "$$\n") (sym parts) ∙ append_assoc (codes "DELIMITER ") behind_word (codes "$$\n")) (line_dollars behind_word v.0 all fresh is))
+            let none : drop (prefix_len is_dollar after_word) after_word ≡ [] = all_dollars (prefix_len is_dollar after_word) _ v.1 in
+            let all : prefix_len is_dollar after_word ≡ length after_word = omega (arith, prefix_len-le-length is_dollar after_word, length-drop (prefix_len is_dollar after_word) after_word, ap length none) in
+            settles_as fresh bytes (codes "$$\n") (dollars_text after_word) (ap (λ t. t ++ codes "$$\n") (sym parts) ∙ append_assoc (codes "DELIMITER ") after_word (codes "$$\n")) (line_dollars after_word v.0 all fresh is))
       ]
     ]
 

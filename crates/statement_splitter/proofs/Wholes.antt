@@ -106,10 +106,10 @@ last_is : (u : Unread) → last u ≡ last_by (next u)
 unfolding last last_by
 last_is u = last_is_by u (next u) refl
 
--- what is last behind a statement, and where none is ended
-pub last_behind : (u v : Unread) (statement : Piece) → next u ≡ piece statement v → last u ≡ last v
+-- what is last after a statement, and where none is ended
+pub last_after : (u v : Unread) (statement : Piece) → next u ≡ piece statement v → last u ≡ last v
 unfolding last_by
-last_behind u v statement is = last_is u ∙ ap last_by is
+last_after u v statement is = last_is u ∙ ap last_by is
 
 pub last_same : (u v : Unread) → next u ≡ next v → last u ≡ last v
 last_same u v is = last_is u ∙ ap last_by is ∙ sym (last_is v)

@@ -2,7 +2,7 @@
 use Rattle.std.specs.Prelude.{ℕ, ◌≡◌, List, [], ◌∷◌, ◌++◌}
 use Rattle.statement_splitter.specs.Pieces.{Unread, with_more, Piece, pieces, PassesLimit, GivesPiece, GivesNone}
 
--- where a statement is given, it is the first of the file's, and the others are those of what is unread behind it
+-- where a statement is given, it is the first of the file's, and the others are those of what is unread after it
 abbrev pub AGivenPieceIsTheFirst : Type 0
 AGivenPieceIsTheFirst = (old new : Unread) (statement : Piece) → GivesPiece old statement new → (more : List ℕ) → pieces (with_more more old) ≡ statement ∷ pieces (with_more more new)
 
@@ -18,7 +18,7 @@ NoneIsLost = (old new : Unread) → GivesNone old new → SameFromThenOn old new
 abbrev pub TooLongStaysSo : Type 0
 TooLongStaysSo = (limit : ℕ) (unread : Unread) (more : List ℕ) → PassesLimit limit unread → PassesLimit limit (with_more more unread)
 
--- the texts of statements, each with a `|` behind it
+-- the texts of statements, each with a `|` after it
 abbrev pub written : List Piece → List ℕ
 written [] = []
 written (statement ∷ statements) = (statement.text ++ 124 ∷ []) ++ written statements

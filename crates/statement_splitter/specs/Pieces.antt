@@ -29,7 +29,7 @@ dollars_line n (byte ∷ bytes) = if nat_le 2 n && byte == 10 then DelimiterLine
 abbrev pub is_dollar : ℕ → Bool
 is_dollar byte = byte == 36
 
--- the delimiter behind the word DELIMITER and a space, and the line's end
+-- the delimiter after the word DELIMITER and a space, and the line's end
 abbrev pub delimiter_line : List ℕ → Opening
 delimiter_line bytes =
     if begins (codes ";\n") bytes then DelimiterLine 12 Semicolon
@@ -43,14 +43,14 @@ line_opening bytes =
     else (if is_front_of (codes "DELIMITER ") bytes then Undecided
     else Statement)
 
--- behind a `-`
+-- after a `-`
 abbrev pub dash_opening : List ℕ → Opening
 dash_opening bytes =
     if begins (codes "- ") bytes then Comment 3 LineFeed
     else (if is_front_of (codes "- ") bytes then Undecided
     else Statement)
 
--- behind a `/`
+-- after a `/`
 abbrev pub slash_opening : List ℕ → Opening
 slash_opening [] = Undecided
 slash_opening (byte ∷ bytes) =
@@ -85,9 +85,9 @@ pub record Unread : Type 0 where
 abbrev pub with_more : List ℕ → Unread → Unread
 with_more more unread = record { ending = unread.ending; fresh = unread.fresh; offset = unread.offset; rest = unread.rest ++ more }
 
--- the same behind so many bytes
-abbrev pub behind : ℕ → Bool → Delimiter → Unread → Unread
-behind n fresh ending unread = record { ending = ending; fresh = fresh; offset = unread.offset + n; rest = drop n unread.rest }
+-- the same after so many bytes
+abbrev pub after : ℕ → Bool → Delimiter → Unread → Unread
+after n fresh ending unread = record { ending = ending; fresh = fresh; offset = unread.offset + n; rest = drop n unread.rest }
 
 -- whether the last of the first n bytes is a line feed
 abbrev pub ends_line : ℕ → List ℕ → Bool
@@ -98,7 +98,7 @@ pub record Piece : Type 0 where
   pub offset : ℕ
   pub text : List ℕ
 
--- what comes next: a statement and what is unread behind it, one that isn't ended, bytes that more bytes decide, or none
+-- what comes next: a statement and what is unread after it, one that isn't ended, bytes that more bytes decide, or none
 pub data Next : Type 0 where
   piece : Piece → Unread → Next
   unended : Unread → Next
@@ -113,11 +113,11 @@ pub data Step : Type 0 where
 -- a statement that begins here, and has so many bytes where it is ended
 abbrev pub statement_next : Unread → Option ℕ → Next
 statement_next unread None = unended unread
-statement_next unread (Some size) = piece (record { offset = unread.offset; text = take size unread.rest }) (behind (size + end_size unread.ending) (is_line unread.ending) unread.ending unread)
+statement_next unread (Some size) = piece (record { offset = unread.offset; text = take size unread.rest }) (after (size + end_size unread.ending) (is_line unread.ending) unread.ending unread)
 
 -- so many bytes that are passed over
 abbrev pub passed : ℕ → Unread → Step
-passed n unread = further (behind n (ends_line n unread.rest) unread.ending unread)
+passed n unread = further (after n (ends_line n unread.rest) unread.ending unread)
 
 -- a comment with so many bytes before the mark that ends it, where it is ended
 abbrev pub comment_step : Unread → List ℕ → Option ℕ → Step
@@ -128,14 +128,14 @@ abbrev pub step_by : Unread → Opening → Step
 step_by unread Nothing = found (none unread)
 step_by unread White = passed 1 unread
 step_by unread (Comment n end) = comment_step unread (mark_of end) (plus n (before_mark (mark_of end) (drop n unread.rest)))
-step_by unread (DelimiterLine n ending) = further (behind n true ending unread)
+step_by unread (DelimiterLine n ending) = further (after n true ending unread)
 step_by unread Statement = found (statement_next unread (size_in unread.ending unread.rest))
 step_by unread Undecided = found (waiting unread)
 
 abbrev pub step : Unread → Step
 step unread = step_by unread (opening unread.fresh unread.rest)
 
--- what comes next, behind at most so many things that are passed over
+-- what comes next, after at most so many things that are passed over
 abbrev pub next_within : ℕ → Unread → Next
 next_within zero unread = none unread
 next_within (suc n) unread = elim (step unread) [ found next ↦ next | further unread ↦ next_within n unread ]
@@ -156,7 +156,7 @@ abbrev pub last_within : ℕ → Unread → Next
 last_within zero unread = none unread
 last_within (suc n) unread = elim (next unread) [ piece statement unread ↦ last_within n unread | unended unread ↦ unended unread | waiting unread ↦ waiting unread | none unread ↦ none unread ]
 
--- what comes behind the statements that are ended
+-- what comes after the statements that are ended
 unfoldable pub last : Unread → Next
 last unread = last_within (suc (length unread.rest)) unread
 

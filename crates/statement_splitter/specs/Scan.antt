@@ -6,9 +6,9 @@ use Rattle.statement_splitter.specs.declared.delimiter.Delimiter.TheVariants.{Se
 use Rattle.statement_splitter.specs.declared.within.Within.{Within}
 use Rattle.statement_splitter.specs.declared.within.Within.TheVariants.{Text, Dash, Dashes, Slash, Opened, Comment, Star, Line, Quoted, Escaped, Name}
 
--- where the next byte stands behind a byte of a text
-abbrev pub behind_text : ℕ → Within
-behind_text byte =
+-- where the next byte stands after a byte of a text
+abbrev pub after_text : ℕ → Within
+after_text byte =
     if byte == 45 then Dash
     else (if byte == 47 then Slash
     else (if byte == 35 then Line
@@ -16,19 +16,19 @@ behind_text byte =
     else (if byte == 96 then Name
     else Text))))
 
--- the same behind a byte that stands there
-abbrev pub behind_byte : Within → ℕ → Within
-behind_byte Text byte = behind_text byte
-behind_byte Dash byte = if byte == 45 then Dashes else behind_text byte
-behind_byte Dashes byte = if byte == 32 then Line else (if byte == 45 then Dashes else behind_text byte)
-behind_byte Slash byte = if byte == 42 then Opened else behind_text byte
-behind_byte Opened byte = if byte == 33 then Text else (if byte == 42 then Star else Comment)
-behind_byte Comment byte = if byte == 42 then Star else Comment
-behind_byte Star byte = if byte == 47 then Text else (if byte == 42 then Star else Comment)
-behind_byte Line byte = if byte == 10 then Text else Line
-behind_byte (Quoted quote) byte = if byte == quote then Text else (if byte == 92 then Escaped quote else Quoted quote)
-behind_byte (Escaped quote) byte = Quoted quote
-behind_byte Name byte = if byte == 96 then Text else Name
+-- the same after a byte that stands there
+abbrev pub after_byte : Within → ℕ → Within
+after_byte Text byte = after_text byte
+after_byte Dash byte = if byte == 45 then Dashes else after_text byte
+after_byte Dashes byte = if byte == 32 then Line else (if byte == 45 then Dashes else after_text byte)
+after_byte Slash byte = if byte == 42 then Opened else after_text byte
+after_byte Opened byte = if byte == 33 then Text else (if byte == 42 then Star else Comment)
+after_byte Comment byte = if byte == 42 then Star else Comment
+after_byte Star byte = if byte == 47 then Text else (if byte == 42 then Star else Comment)
+after_byte Line byte = if byte == 10 then Text else Line
+after_byte (Quoted quote) byte = if byte == quote then Text else (if byte == 92 then Escaped quote else Quoted quote)
+after_byte (Escaped quote) byte = Quoted quote
+after_byte Name byte = if byte == 96 then Text else Name
 
 -- neither in quotes nor in a comment
 abbrev pub is_text : Within → Bool
@@ -46,7 +46,7 @@ plus n (Some size) = Some (n + size)
 -- how many bytes come before the first `;` that is in no quotes and in no comment
 abbrev pub before_semicolon : Within → List ℕ → Option ℕ
 before_semicolon within [] = None
-before_semicolon within (byte ∷ bytes) = if byte == 59 && is_text within then Some 0 else plus 1 (before_semicolon (behind_byte within byte) bytes)
+before_semicolon within (byte ∷ bytes) = if byte == 59 && is_text within then Some 0 else plus 1 (before_semicolon (after_byte within byte) bytes)
 
 -- how many bytes come before the first place where the mark stands
 abbrev pub before_mark : List ℕ → List ℕ → Option ℕ

@@ -1,6 +1,6 @@
 -- How far a splitter looked at the bytes that it holds.
 use Rattle.std.specs.Prelude.{◌≡◌, ℕ, ◌+◌, ◌-◌, ◌<◌, ◌≤◌, ◌^◌, ◌==◌, ◌&&◌, Bool, true, false, List, [], ◌∷◌, ◌++◌, length, replicate, drop, slice_index, Option, Some, None}
-use Rattle.statement_splitter.specs.Scan.{behind_byte, is_text, before_semicolon, before_mark, dollar_line, size_in, end_size, plus}
+use Rattle.statement_splitter.specs.Scan.{after_byte, is_text, before_semicolon, before_mark, dollar_line, size_in, end_size, plus}
 use Rattle.statement_splitter.specs.Pieces.{begins, is_front_of, opening, mark_of, Unread, with_more, unended, waiting, none, statement_next, comment_step, step, next, size_of}
 use Rattle.statement_splitter.specs.declared.delimiter.Delimiter.{Delimiter}
 use Rattle.statement_splitter.specs.declared.delimiter.Delimiter.TheVariants.{Semicolon, Dollars}
@@ -20,7 +20,7 @@ use Rattle.statement_splitter.specs.declared.place.Found.TheVariants as find
 
 -- the byte ends no statement there, and the next byte stands where it stands
 abbrev pub IsPlain : Within → ℕ → Type 0
-IsPlain within byte = (behind_byte within byte ≡ within) × ((byte == 59 && is_text within) ≡ false)
+IsPlain within byte = (after_byte within byte ≡ within) × ((byte == 59 && is_text within) ≡ false)
 
 -- the bytes from the one place up to the other are such bytes
 pub record PlainRun (within : Within) (bytes : List ℕ) (from to : ℕ) : Type 0 where
@@ -81,12 +81,12 @@ SearchesEnd ending within bytes from (scan.Open to after) = GoesOn (size_from en
 abbrev pub unread_at : List ℕ → Place → Unread
 unread_at bytes place = record { ending = place.ending; fresh = place.fresh; offset = place.offset; rest = drop place.at bytes }
 
--- a comment is begun, and its end is searched for behind so many bytes
+-- a comment is begun, and its end is searched for after so many bytes
 pub record InComment (unread : Unread) (scanned : ℕ) (word : List ℕ) : Type 0 where
   pub within : scanned ≤ length unread.rest
   pub steps : (more : List ℕ) → step (with_more more unread) ≡ comment_step (with_more more unread) word (plus scanned (before_mark word (drop scanned unread.rest ++ more)))
 
--- a statement is begun, and its end is searched for behind so many bytes
+-- a statement is begun, and its end is searched for after so many bytes
 pub record InStatement (unread : Unread) (scanned : ℕ) (within : Within) : Type 0 where
   pub inside : scanned ≤ length unread.rest
   pub begins : (more : List ℕ) → opening unread.fresh (unread.rest ++ more) ≡ Statement

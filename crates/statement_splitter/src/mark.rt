@@ -25,7 +25,7 @@ enum Likeness {
     Neither,
 }
 
-// How the bytes behind a mark's first compare with the rest of it.
+// How the bytes after a mark's first compare with the rest of it.
 fn compare(bytes: &[u8], dollars: usize, last: u8) -> Likeness
     requires { last ≢ 36 }
     ensures { Compares (replicate dollars 36 ++ last ∷ []) bytes.now result }

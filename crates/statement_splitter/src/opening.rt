@@ -110,14 +110,14 @@ fn slash_opening(bytes: &[u8]) -> Opening
 pub(crate) fn opening_of(fresh: bool, bytes: &[u8]) -> Opening
     ensures { result ≡ opening fresh bytes.now }
 {
-    let Some((first, behind)) = bytes.split_first() else {
+    let Some((first, after)) = bytes.split_first() else {
         return Opening::Nothing;
     };
     match *first {
         b' ' | b'\t' | b'\n' | b'\r' => Opening::White,
         b'#' => Opening::Comment(1, CommentEnd::LineFeed),
-        b'-' => dash_opening(behind),
-        b'/' => slash_opening(behind),
+        b'-' => dash_opening(after),
+        b'/' => slash_opening(after),
         _ if fresh => line_opening(bytes),
         _ => Opening::Statement,
     }

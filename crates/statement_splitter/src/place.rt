@@ -49,7 +49,7 @@ pub(crate) enum Found {
 }
 
 // The place so many bytes further, of which nothing is known.
-fn behind(place: Place, size: usize, fresh: bool, ending: Delimiter) -> Place
+fn after(place: Place, size: usize, fresh: bool, ending: Delimiter) -> Place
     requires at { place.at + size < 2 ^ 64 }
     requires offset { place.offset + size < 2 ^ 64 }
     ensures { result ≡ record { at = place.at + size; offset = place.offset + size; fresh = fresh; ending = ending; begun = Unknown; scanned = 0 } }
@@ -64,15 +64,15 @@ fn behind(place: Place, size: usize, fresh: bool, ending: Delimiter) -> Place
     }
 }
 
-// The place behind a statement of so many bytes, and what ends it.
-pub(crate) fn behind_statement(place: Place, size: usize) -> Place
+// The place after a statement of so many bytes, and what ends it.
+pub(crate) fn after_statement(place: Place, size: usize) -> Place
     requires at { place.at + (size + end_size place.ending) < 2 ^ 64 }
     requires offset { place.offset + (size + end_size place.ending) < 2 ^ 64 }
     ensures { result ≡ record { at = place.at + (size + end_size place.ending); offset = place.offset + (size + end_size place.ending); fresh = is_line place.ending; ending = place.ending; begun = Unknown; scanned = 0 } }
 {
     match place.ending {
-        Delimiter::Semicolon => behind(place, size + 1, false, place.ending),
-        Delimiter::Dollars(dollars) => behind(place, size + (dollars + 2), true, place.ending),
+        Delimiter::Semicolon => after(place, size + 1, false, place.ending),
+        Delimiter::Dollars(dollars) => after(place, size + (dollars + 2), true, place.ending),
     }
 }
 
@@ -95,7 +95,7 @@ fn comment_turn(bytes: &[u8], place: &mut Place, from: usize, end: CommentEnd) -
     match comment_end_from(rest, from, end) {
         Mark::Ended(to) => {
             let size = to + mark_size(end);
-            *place = behind(*place, size, rest[size - 1] == b'\n', place.ending);
+            *place = after(*place, size, rest[size - 1] == b'\n', place.ending);
             None
         }
         Mark::Open(to) => {
@@ -132,14 +132,14 @@ fn first_turn(bytes: &[u8], place: &mut Place) -> Option<Found>
     match opening_of(place.fresh, rest) {
         Opening::Nothing => Some(Found::Nothing),
         Opening::White => {
-            *place = behind(*place, 1, rest[0] == b'\n', place.ending);
+            *place = after(*place, 1, rest[0] == b'\n', place.ending);
             None
         }
-        // With a `!` behind it, `/*` begins a statement.
+        // With a `!` after it, `/*` begins a statement.
         Opening::Comment(size, _) if size == rest.len() => Some(Found::Nothing),
         Opening::Comment(size, end) => comment_turn(bytes, place, size, end),
         Opening::DelimiterLine(size, ending) => {
-            *place = behind(*place, size, true, ending);
+            *place = after(*place, size, true, ending);
             None
         }
         Opening::Statement => Some(statement_turn(bytes, place, 0, Within::Text)),
@@ -192,7 +192,7 @@ pub(crate) fn begun_from(bytes: &[u8], place: Place) -> Option<u64>
     let mut now = place;
     'pieces: loop {
         match find(bytes, &mut now) {
-            Found::Ended(size) => now = behind_statement(now, size),
+            Found::Ended(size) => now = after_statement(now, size),
             Found::Unended | Found::Waiting => return Some(now.offset),
             Found::Nothing => return None,
         }

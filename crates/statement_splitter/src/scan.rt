@@ -6,7 +6,7 @@ ghost use Rattle.statement_splitter.specs.declared.delimiter.Delimiter.TheVarian
 use crate::delimiter::Delimiter;
 use crate::mark::{Mark, mark_from};
 use crate::runs::plain_until;
-use crate::within::{Within, behind_byte, is_end};
+use crate::within::{Within, after_byte, is_end};
 
 // What a search for the end of a statement found.
 #[derive(Clone, Copy)]
@@ -33,7 +33,7 @@ fn semicolon_from(bytes: &[u8], from: usize, within: Within) -> Scan
         if is_end(within, byte) {
             return Scan::Ended(at);
         }
-        within = behind_byte(within, byte);
+        within = after_byte(within, byte);
         at += 1;
     }
 }

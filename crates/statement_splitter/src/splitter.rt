@@ -5,7 +5,7 @@ ghost use Rattle.std.specs.Io.BufRead.{Rests};
 ghost use Rattle.statement_splitter.specs.Pieces.{with_more, unread_file, begun, last};
 
 use crate::delimiter::Delimiter;
-use crate::place::{Begun, Found, Place, begun_from, behind_statement, find, least_size};
+use crate::place::{Begun, Found, Place, after_statement, begun_from, find, least_size};
 use plain_data::OutOfMemory;
 use std::alloc::Global;
 use std::marker::Model;
@@ -121,7 +121,7 @@ impl Splitter {
             self.offset = place.offset;
             self.start = place.at;
             self.size = size;
-            self.place = behind_statement(place, size);
+            self.place = after_statement(place, size);
             return Ok(true);
         }
         self.place = place;

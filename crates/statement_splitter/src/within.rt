@@ -1,29 +1,29 @@
 // Where a byte of a statement stands.
 ghost use Rattle.std.specs.Prelude.{◌≡◌, ◌==◌, ◌&&◌};
-ghost use Rattle.statement_splitter.specs.Scan.{is_text, behind_text, behind_byte};
+ghost use Rattle.statement_splitter.specs.Scan.{is_text, after_text, after_byte};
 
 /// Where the next byte of a statement stands.
 #[derive(Clone, Copy)]
 pub enum Within {
     /// Neither in quotes nor in a comment.
     Text,
-    /// The same, behind a `-`.
+    /// The same, after a `-`.
     Dash,
-    /// The same, behind two of them.
+    /// The same, after two of them.
     Dashes,
-    /// The same, behind a `/`.
+    /// The same, after a `/`.
     Slash,
-    /// Behind a `/*`: with a `!` it goes on as text.
+    /// After a `/*`: with a `!` it goes on as text.
     Opened,
     /// In a comment up to `*/`.
     Comment,
-    /// There, behind a `*`.
+    /// There, after a `*`.
     Star,
     /// In a comment up to the line's end.
     Line,
     /// In a string with that quote.
     Quoted(u8),
-    /// There, behind a backslash.
+    /// There, after a backslash.
     Escaped(u8),
     /// In a name between backquotes.
     Name,
@@ -48,8 +48,8 @@ pub(crate) fn is_end(within: Within, byte: u8) -> bool
 }
 
 #[inline]
-fn behind_text(byte: u8) -> Within
-    ensures { result ≡ behind_text byte }
+fn after_text(byte: u8) -> Within
+    ensures { result ≡ after_text byte }
 {
     match byte {
         b'-' => Within::Dash,
@@ -62,18 +62,18 @@ fn behind_text(byte: u8) -> Within
 }
 
 #[inline]
-pub(crate) fn behind_byte(within: Within, byte: u8) -> Within
-    ensures { result ≡ behind_byte within byte }
+pub(crate) fn after_byte(within: Within, byte: u8) -> Within
+    ensures { result ≡ after_byte within byte }
 {
     match within {
-        Within::Text => behind_text(byte),
+        Within::Text => after_text(byte),
         Within::Dash if byte == b'-' => Within::Dashes,
-        Within::Dash => behind_text(byte),
+        Within::Dash => after_text(byte),
         Within::Dashes if byte == b' ' => Within::Line,
         Within::Dashes if byte == b'-' => Within::Dashes,
-        Within::Dashes => behind_text(byte),
+        Within::Dashes => after_text(byte),
         Within::Slash if byte == b'*' => Within::Opened,
-        Within::Slash => behind_text(byte),
+        Within::Slash => after_text(byte),
         Within::Opened if byte == b'!' => Within::Text,
         Within::Star if byte == b'/' => Within::Text,
         Within::Opened | Within::Comment | Within::Star if byte == b'*' => Within::Star,

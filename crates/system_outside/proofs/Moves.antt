@@ -35,6 +35,6 @@ taken_off bytes into front start stop count fits enough copied =
     let whole : stop - start ≡ count + more = omega arith in
     let len : length front ≡ count = ap length copied ∙ length-take-le count waiting enough in
     let in_front : take count (front ++ drop count into) ≡ front = subst (λ n. take n (front ++ drop count into) ≡ front) len (take-append_seam front (drop count into)) in
-    let behind : drop count waiting ≡ take more (drop (start + count) bytes) =
+    let after : drop count waiting ≡ take more (drop (start + count) bytes) =
     ap (λ n. drop count (take n (drop start bytes))) whole ∙ drop-take count more (drop start bytes) ∙ ap (take more) (drop-drop count start bytes) in
-    sym (take-append-drop count waiting) ∙ ap (λ l. l ++ drop count waiting) (sym (in_front ∙ copied)) ∙ ap (λ l. take count (front ++ drop count into) ++ l) behind
+    sym (take-append-drop count waiting) ∙ ap (λ l. l ++ drop count waiting) (sym (in_front ∙ copied)) ∙ ap (λ l. take count (front ++ drop count into) ++ l) after

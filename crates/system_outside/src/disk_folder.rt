@@ -6,7 +6,7 @@ ghost use Rattle.link_traits.specs.Cause.{Rose};
 
 use crate::disk_shelf::DiskShelf;
 use link_traits::{Folder, FolderFailed, ListFault};
-use sql_literals::{Name, NameList, OutOfMemory};
+use plain_data::{Name, NameList, OutOfMemory};
 use std::io::ErrorKind;
 use std::marker::Model;
 use std::rt::Files;

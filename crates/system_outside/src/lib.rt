@@ -1,4 +1,4 @@
-//! The real outside behind the traits of `link_traits`: a server over TCP, a directory of the disk,
+//! The real outside after the traits of `link_traits`: a server over TCP, a directory of the disk,
 //! standard error and the system's clock.
 //!
 //! The adapters tell where they aim and how often they failed, and nothing of what a server says or

@@ -4,7 +4,7 @@ ghost use Rattle.std.specs.Io.KnownBytes.{Consumes};
 ghost use Rattle.link_traits.specs.Link.{IsWithin};
 
 use crate::transfer::read_some;
-use sql_literals::OutOfMemory;
+use plain_data::OutOfMemory;
 use std::alloc::Global;
 use std::io;
 use std::io::Read;

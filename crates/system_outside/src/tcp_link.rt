@@ -2,12 +2,12 @@
 ghost use Rattle.std.specs.Prelude.{◌≡◌, ◌<◌, ◌≤◌, ◌+◌, ◌-◌, ◌^◌, [], length, take, true, false, min, IfOk, OnOk, OnErr};
 ghost use Rattle.std.specs.Io.KnownBytes.{Appends, Consumes};
 ghost use Rattle.link_traits.specs.Cause.{HasCause};
-ghost use Rattle.link_traits.specs.Link.{begun, IsWithin};
+ghost use Rattle.link_traits.specs.Link.{told_at_start, IsWithin};
 
 use crate::read_buffer::{READ_SIZE, ReadBuffer};
 use crate::transfer::{read_some, write_front};
 use link_traits::{Link, LinkFailed};
-use sql_literals::OutOfMemory;
+use plain_data::OutOfMemory;
 use std::alloc::Global;
 use std::io::{Read, Write};
 use std::marker::Model;
@@ -80,7 +80,7 @@ impl<S: Read + Write + Drop> Link for TcpLink<S> {
 
     ghost tells = { λ _. ⊥ };
 
-    ghost told = { λ _. begun [] };
+    ghost told = { λ _. told_at_start [] };
 
     ghost faults = { λ link. link.faults };
 

@@ -3,7 +3,7 @@ ghost use Rattle.std.specs.Prelude.{◌≡◌, ◌≤◌, ◌+◌, ◌-◌, ◌^
 
 use crate::tcp_link::TcpLink;
 use link_traits::{Link, LinkFailed, Site};
-use sql_literals::OutOfMemory;
+use plain_data::OutOfMemory;
 use std::marker::Model;
 use std::net::{Net, OpenStream, TcpStream};
 

@@ -1,10 +1,10 @@
 -- Messages of logins (MySQL source documentation, Protocol::HandshakeV10, Protocol::HandshakeResponse41, Protocol::AuthSwitchRequest).
 use Rattle.std.specs.Prelude.{ℕ, ◌≡◌, List, [], ◌∷◌, ◌++◌, Some, None, Ok, Err, codes}
-use Rattle.result_rows.specs.KeptText.{kept_text}
-use Rattle.my_login.specs.Greeting.{greeting_of}
-use Rattle.my_login.specs.Response.{response}
-use Rattle.my_login.specs.Switch.{switch_of}
-use Rattle.my_login.specs.declared.fault.LoginFault.TheVariants.{NotProtocol10, PluginUnsupported, Refused, Garbled}
+use Rattle.wire_forms.specs.KeptText.{kept_text}
+use Rattle.wire_forms.specs.Greeting.{greeting_of}
+use Rattle.wire_forms.specs.Response.{response}
+use Rattle.wire_forms.specs.Switch.{switch_of}
+use Rattle.wire_forms.specs.declared.login_fault.LoginFault.TheVariants.{NotProtocol10, PluginUnsupported, Refused, Garbled}
 
 abbrev pub zero_byte : List ℕ
 zero_byte = 0 ∷ []
@@ -33,7 +33,7 @@ pub record Greetings : Type 0 where
   pub of_mysql : greeting_of (greeting ++ codes "caching_sha2_password" ++ zero_byte) ≡ Ok (record { version = kept_text (codes "8.0.35"); scramble = codes "abcdefghijklmnopqrst"; plugin = kept_text (codes "caching_sha2_password") })
   pub without_plugins : greeting_of plain_greeting ≡ Ok (record { version = kept_text (codes "8.0.35"); scramble = codes "abcdefghijklmnopqrst"; plugin = kept_text (codes "mysql_native_password") })
   pub no_plugin_named : greeting_of greeting ≡ Err Garbled
-  pub byte_behind_plugin : greeting_of (greeting ++ codes "caching_sha2_password" ++ 0 ∷ codes "x") ≡ Err Garbled
+  pub byte_after_plugin : greeting_of (greeting ++ codes "caching_sha2_password" ++ 0 ∷ codes "x") ≡ Err Garbled
   pub short_scrambles : greeting_of (old_greeting ++ codes "caching_sha2_password" ++ zero_byte) ≡ Err Garbled
   pub no_end_of_version : greeting_of (10 ∷ codes "8.0.35") ≡ Err Garbled
   pub other_protocol : greeting_of (9 ∷ codes "8.0.35" ++ zero_byte) ≡ Err (NotProtocol10 9)
@@ -53,7 +53,7 @@ pub record Responses : Type 0 where
 -- What requests for another plugin say.
 pub record RequestsForAPlugin : Type 0 where
   pub native : switch_of (254 ∷ codes "mysql_native_password" ++ 0 ∷ codes "ABCDEFGHIJKLMNOPQRST" ++ zero_byte) ≡ Ok (record { scramble = codes "ABCDEFGHIJKLMNOPQRST" })
-  pub no_zero_behind : switch_of (254 ∷ codes "mysql_native_password" ++ 0 ∷ codes "ABCDEFGHIJKLMNOPQRST") ≡ Ok (record { scramble = codes "ABCDEFGHIJKLMNOPQRST" })
+  pub no_zero_after : switch_of (254 ∷ codes "mysql_native_password" ++ 0 ∷ codes "ABCDEFGHIJKLMNOPQRST") ≡ Ok (record { scramble = codes "ABCDEFGHIJKLMNOPQRST" })
   pub byte_too_few : switch_of (254 ∷ codes "mysql_native_password" ++ 0 ∷ codes "ABCDEFGHIJKLMNOPQRS") ≡ Err Garbled
   pub byte_too_many : switch_of (254 ∷ codes "mysql_native_password" ++ 0 ∷ codes "ABCDEFGHIJKLMNOPQRSTU") ≡ Err Garbled
   pub two_zeros : switch_of (254 ∷ codes "mysql_native_password" ++ 0 ∷ codes "ABCDEFGHIJKLMNOPQRST" ++ 0 ∷ zero_byte) ≡ Err Garbled

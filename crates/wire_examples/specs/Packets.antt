@@ -1,7 +1,7 @@
 -- Length-encoded integers and packets (MySQL source documentation, Protocol::LengthEncodedInteger, "MySQL Packets").
 use Rattle.std.specs.Prelude.{◌≡◌, [], ◌∷◌, Some, None, codes}
-use Rattle.my_packets.specs.Lenenc.{lenenc, lenenc_of}
-use Rattle.my_packets.specs.Packet.{packet_header, packets, packet_count, id_behind}
+use Rattle.wire_forms.specs.Lenenc.{lenenc, lenenc_of}
+use Rattle.wire_forms.specs.Packet.{packet_header, packets, packet_count, id_after}
 
 -- Numbers, written as short as it goes and read.
 pub record Numbers : Type 0 where
@@ -21,7 +21,7 @@ pub record Numbers : Type 0 where
 -- A query is one packet, and the answer to it has the next sequence id; what a full packet and the next begin with.
 pub record PacketsOfAQuery : Type 0 where
   pub query : packets 0 (3 ∷ codes "SELECT 1") ≡ 9 ∷ 0 ∷ 0 ∷ 0 ∷ 3 ∷ codes "SELECT 1"
-  pub behind_it : id_behind (packet_count 9) 0 ≡ 1
-  pub behind_full : id_behind (packet_count 16777215) 255 ≡ 1
+  pub after_it : id_after (packet_count 9) 0 ≡ 1
+  pub after_full : id_after (packet_count 16777215) 255 ≡ 1
   pub most_of_one : packet_header 16777214 255 ≡ 254 ∷ 255 ∷ 255 ∷ 255 ∷ []
   pub full : packet_header 16777215 0 ≡ 255 ∷ 255 ∷ 255 ∷ 0 ∷ []

@@ -1,10 +1,10 @@
 -- Messages of replies (MySQL source documentation, OK_Packet, ERR_Packet, EOF_Packet, COM_QUERY Response, ProtocolText::Resultset).
 use Rattle.std.specs.Prelude.{ℕ, ◌≡◌, List, [], ◌∷◌, ◌++◌, Some, None, codes}
-use Rattle.result_rows.specs.KeptText.{kept_text}
-use Rattle.result_rows.specs.Reading.{Reading, counted, further_of, definition, row, end, refused, garbled}
-use Rattle.result_rows.specs.Reply.{reply_of}
-use Rattle.result_rows.specs.declared.refusal.Refusal.{Refusal}
-use Rattle.result_rows.specs.declared.reader.Reply.TheVariants.{Done, Refused, Columns}
+use Rattle.wire_forms.specs.KeptText.{kept_text}
+use Rattle.wire_forms.specs.Reading.{Reading, columns_counted, further_of, definition, row, end, refused, garbled}
+use Rattle.wire_forms.specs.Reply.{reply_of}
+use Rattle.wire_forms.specs.declared.refusal.Refusal.{Refusal}
+use Rattle.wire_forms.specs.declared.reply.Reply.TheVariants.{Done, Refused, Columns}
 
 -- the ERR of a table that doesn't exist, without a message, and what it says
 abbrev pub no_table : List ℕ
@@ -26,7 +26,7 @@ pub record FirstMessages : Type 0 where
   pub most_columns : reply_of (252 ∷ 255 ∷ 255 ∷ []) ≡ Some (Columns 65535)
   pub no_columns : reply_of (252 ∷ 0 ∷ 0 ∷ []) ≡ None
   pub too_many_columns : reply_of (253 ∷ 0 ∷ 0 ∷ 1 ∷ []) ≡ None
-  pub byte_behind_count : reply_of (1 ∷ 0 ∷ []) ≡ None
+  pub byte_after_count : reply_of (1 ∷ 0 ∷ []) ≡ None
   pub local_file : reply_of (251 ∷ codes "/etc/passwd") ≡ None
   pub nothing : reply_of [] ≡ None
 
@@ -37,7 +37,7 @@ id_definition = 3 ∷ codes "def" ++ 1 ∷ codes "s" ++ 1 ∷ codes "t" ++ 1 ∷
 abbrev pub eof : List ℕ
 eof = 254 ∷ 0 ∷ 0 ∷ 2 ∷ 0 ∷ []
 
--- a result set of so many columns whose definitions were read, without and with the EOF behind them
+-- a result set of so many columns whose definitions were read, without and with the EOF after them
 abbrev pub at_eof : ℕ → Reading
 at_eof columns = record { columns = columns; awaited = 1 }
 
@@ -46,14 +46,14 @@ at_rows columns = record { columns = columns; awaited = 0 }
 
 -- What the further messages of a result set say.
 pub record FurtherMessages : Type 0 where
-  pub column : further_of (counted 1) id_definition ≡ definition
-  pub byte_behind_column : further_of (counted 1) (id_definition ++ 0 ∷ []) ≡ garbled
-  pub eof_for_column : further_of (counted 1) eof ≡ garbled
-  pub eof_behind : further_of (at_eof 1) eof ≡ definition
+  pub column : further_of (columns_counted 1) id_definition ≡ definition
+  pub byte_after_column : further_of (columns_counted 1) (id_definition ++ 0 ∷ []) ≡ garbled
+  pub eof_for_column : further_of (columns_counted 1) eof ≡ garbled
+  pub eof_after : further_of (at_eof 1) eof ≡ definition
   pub column_for_eof : further_of (at_eof 1) id_definition ≡ garbled
   pub cells : further_of (at_rows 2) (1 ∷ codes "2" ++ 251 ∷ []) ≡ row (Some (codes "2") ∷ None ∷ [])
   pub long_spelling : further_of (at_rows 2) (0 ∷ 252 ∷ 1 ∷ 0 ∷ codes "a") ≡ row (Some [] ∷ Some (codes "a") ∷ [])
-  pub byte_behind_cells : further_of (at_rows 1) (1 ∷ codes "3" ++ 0 ∷ []) ≡ garbled
+  pub byte_after_cells : further_of (at_rows 1) (1 ∷ codes "3" ++ 0 ∷ []) ≡ garbled
   pub the_end : further_of (at_rows 1) eof ≡ end
   pub long_end : further_of (at_rows 1) (eof ++ 0 ∷ 0 ∷ 0 ∷ []) ≡ end
   pub row_like_an_end : further_of (at_rows 1) (254 ∷ 0 ∷ 0 ∷ 0 ∷ 0 ∷ 0 ∷ 0 ∷ 0 ∷ 0 ∷ []) ≡ row (Some [] ∷ [])

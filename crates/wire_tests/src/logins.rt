@@ -2,9 +2,10 @@
 use crate::words::{
     add_bytes, add_text, bytes_of, first_and_rest, hex_of, refusal_words, text_of, words_of,
 };
-use my_login::{Greeting, LoginFault, Switch, native_answer, response_into};
+use my_login::{LoginMessage, native_answer, response_into};
 use plain_data::OutOfMemory;
 use std::alloc::Global;
+use wire_forms::{Greeting, LoginFault, Switch};
 
 pub fn answer(alloc: Global, call: &str, words: &str) -> Result<String, OutOfMemory> {
     match call {
@@ -36,13 +37,13 @@ fn greeting_words(alloc: Global, greeting: &Greeting) -> Result<String, OutOfMem
 fn fault_words(alloc: Global, fault: &LoginFault) -> Result<String, OutOfMemory> {
     match fault {
         LoginFault::NotProtocol10(version) => Ok(format!(in alloc; "protocol version {version}")?),
-        LoginFault::PluginUnsupported(plugin) => words_behind(alloc, "plugin ", plugin.as_slice()),
+        LoginFault::PluginUnsupported(plugin) => words_after(alloc, "plugin ", plugin.as_slice()),
         LoginFault::Refused(refusal) => refusal_words(alloc, refusal),
         LoginFault::Garbled => text_of(alloc, "garbled"),
     }
 }
 
-fn words_behind(alloc: Global, front: &str, bytes: &[u8]) -> Result<String, OutOfMemory> {
+fn words_after(alloc: Global, front: &str, bytes: &[u8]) -> Result<String, OutOfMemory> {
     let mut words = text_of(alloc, front)?;
     add_bytes(&mut words, bytes)?;
     Ok(words)
@@ -50,7 +51,7 @@ fn words_behind(alloc: Global, front: &str, bytes: &[u8]) -> Result<String, OutO
 
 fn switch(alloc: Global, words: &str) -> Result<String, OutOfMemory> {
     match Switch::read(&bytes_of(alloc, words)?) {
-        Ok(switch) => words_behind(alloc, "scramble ", &switch.scramble),
+        Ok(switch) => words_after(alloc, "scramble ", &switch.scramble),
         Err(fault) => fault_words(alloc, &fault),
     }
 }

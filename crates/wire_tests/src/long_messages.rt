@@ -33,7 +33,7 @@ fn packets_of(alloc: Global, message: &[u8], id: u8) -> Result<Packets, OutOfMem
 }
 
 // `frame_long ID SIZE`: the first four bytes of the packets, the last five, how many there are, and the
-// id behind them.
+// id after them.
 pub fn framed_long(alloc: Global, words: &str) -> Result<String, OutOfMemory> {
     let (id, rest) = byte_and_rest(words);
     let (size, _) = limit_and_rest(rest);
@@ -93,14 +93,14 @@ fn feed_all(frames: &mut Frames, bytes: &[u8], size: usize) -> Result<bool, OutO
     Ok(true)
 }
 
-// Whether the message that is read is this one, where it begins, and the id behind it.
+// Whether the message that is read is this one, where it begins, and the id after it.
 fn message_words(
     alloc: Global,
     frames: &mut Frames,
     message: &[u8],
 ) -> Result<String, OutOfMemory> {
     if frames.wants() != 0 {
-        return text_of(alloc, "bytes are wanted behind the last piece");
+        return text_of(alloc, "bytes are wanted after the last piece");
     }
     match frames.next() {
         Ok(Some(read)) if read.payload == message => {

@@ -12,7 +12,7 @@ use std::alloc::Global;
 // No case has so many bytes.
 const MOST: usize = 1_000_000;
 
-// The server's answer to a command, an OK packet, behind the command's own packet 0.
+// The server's answer to a command, an OK packet, after the command's own packet 0.
 const OK: [u8; 11] = [7, 0, 0, 1, 0, 0, 0, 2, 0, 0, 0];
 
 pub fn answer(alloc: Global, call: &str, words: &str) -> Result<String, OutOfMemory> {
@@ -181,7 +181,7 @@ fn fault_of(frames: &mut Frames) -> Option<FrameFault>
     }
 }
 
-// The fault that is answered to the bytes, that of the next call, and that behind a message more.
+// The fault that is answered to the bytes, that of the next call, and that after a message more.
 fn fault_stays(alloc: Global, words: &str) -> Result<String, OutOfMemory> {
     let (limit, rest) = limit_and_rest(words);
     let (id, rest) = byte_and_rest(rest);
@@ -199,7 +199,7 @@ fn fault_stays(alloc: Global, words: &str) -> Result<String, OutOfMemory> {
     };
     frames.feed(&OK)?;
     let Some(third) = fault_of(&mut frames) else {
-        return text_of(alloc, "no fault behind more");
+        return text_of(alloc, "no fault after more");
     };
     Ok(format!(in alloc; "{first}, {second}, {third}")?)
 }

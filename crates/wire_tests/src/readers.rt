@@ -3,14 +3,14 @@ ghost use Rattle.std.specs.Prelude.{◌<◌, ◌^◌};
 ghost use Rattle.grammar.specs.Reading.{size_of};
 
 use crate::words::{bytes_of, first_and_rest, limit_and_rest, text_of};
-use grammar::{behind, first_byte, optional, read_fixed};
+use grammar::{after, first_byte, optional, read_fixed};
 use plain_data::OutOfMemory;
 use std::alloc::Global;
 
 pub fn answer(alloc: Global, call: &str, words: &str) -> Result<String, OutOfMemory> {
     match call {
         "read_fixed" => fixed(alloc, words),
-        "behind" => behind_three(alloc, words),
+        "after" => after_three(alloc, words),
         "optional" => perhaps(alloc, words),
         "first_byte" => first(alloc, words),
         _ => text_of(alloc, "no such call"),
@@ -39,8 +39,8 @@ fn fixed(alloc: Global, words: &str) -> Result<String, OutOfMemory> {
     reading_words(alloc, read_fixed(bytes.as_bytes(), word.as_bytes()))
 }
 
-fn behind_three(alloc: Global, words: &str) -> Result<String, OutOfMemory> {
-    reading_words(alloc, behind(3, reading_of(words)))
+fn after_three(alloc: Global, words: &str) -> Result<String, OutOfMemory> {
+    reading_words(alloc, after(3, reading_of(words)))
 }
 
 fn perhaps(alloc: Global, words: &str) -> Result<String, OutOfMemory> {

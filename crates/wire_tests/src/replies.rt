@@ -2,8 +2,9 @@
 use crate::words::{add_bytes, add_text, bytes_of, limit_and_rest, refusal_words, text_of};
 use my_packets::Message;
 use plain_data::OutOfMemory;
-use result_rows::{Refusal, Reply, ReplyFault, Row, RowReader, Turn, is_ok_packet};
+use result_rows::{ReplyFault, Row, RowReader, Turn, is_ok_packet, refusal_read};
 use std::alloc::Global;
+use wire_forms::{Refusal, Reply};
 
 pub fn answer(
     alloc: Global,
@@ -61,7 +62,7 @@ fn turn_words(alloc: Global, turn: Turn<'_>) -> Result<String, OutOfMemory> {
 }
 
 fn read_refusal(alloc: Global, payload: &[u8]) -> Result<String, OutOfMemory> {
-    match Refusal::read(payload) {
+    match refusal_read(payload) {
         Some(refusal) => refusal_words(alloc, &refusal),
         None => text_of(alloc, "none"),
     }
@@ -98,7 +99,7 @@ fn long_refusal(alloc: Global, words: &str) -> Result<String, OutOfMemory> {
     for i in 0..size {
         payload.push((i % 251) as u8)?;
     }
-    match Refusal::read(&payload) {
+    match refusal_read(&payload) {
         Some(refusal) => kept_words(alloc, &payload[3..], refusal.message.as_slice()),
         None => text_of(alloc, "none"),
     }

@@ -1,8 +1,8 @@
 // The words of cases: numbers, and bytes in percent-encoding.
 use percent_encoding::{CONTROLS, percent_decode, percent_encode};
 use plain_data::OutOfMemory;
-use result_rows::Refusal;
 use std::alloc::Global;
+use wire_forms::Refusal;
 
 // The bytes that a word spells.
 pub fn bytes_of(alloc: Global, word: &str) -> Result<Vec<u8>, OutOfMemory> {
@@ -43,12 +43,12 @@ pub fn text_of(alloc: Global, text: &str) -> Result<String, OutOfMemory> {
     Ok(String::from_str(alloc, text)?)
 }
 
-// The first word, and what stands behind it.
+// The first word, and what stands after it.
 pub fn first_and_rest(words: &str) -> (&str, &str) {
     words.split_once(' ').unwrap_or((words, ""))
 }
 
-// The number that stands first, and what stands behind it. A word that is no number is 0.
+// The number that stands first, and what stands after it. A word that is no number is 0.
 pub fn number_and_rest(words: &str) -> (u64, &str) {
     let (word, rest) = first_and_rest(words);
     (word.parse().unwrap_or(0), rest)

@@ -2,14 +2,13 @@
 ghost use Rattle.std.specs.Prelude.{◌≡◌, ◌≤◌, ℕ, take, IfOk, IsErrOf};
 ghost use Rattle.hex.specs.Hex.{decode_pairs};
 ghost use Rattle.grammar.specs.Language.{Longest, Absent};
-ghost use Rattle.sql_literals.specs.Cell.{bytes_of};
-ghost use Rattle.sql_literals.specs.Spelling.{Literal, cell_of, hex_bytes, inside};
+ghost use Rattle.sql_cells.specs.Cell.{bytes_of};
+ghost use Rattle.sql_cells.specs.Spelling.{Literal, cell_of, hex_bytes, inside};
 
-use crate::bytes::Bytes;
-use crate::cell::Cell;
 use crate::escapes::unescape;
 use crate::reading::skip::literal_skip;
-use plain_data::OutOfMemory;
+use plain_data::{Bytes, OutOfMemory};
+use sql_cells::Cell;
 use std::alloc::Global;
 use thiserror::Error;
 

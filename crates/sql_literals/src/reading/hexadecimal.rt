@@ -2,9 +2,9 @@
 ghost use Rattle.std.specs.Prelude.{◌≡◌};
 ghost use Rattle.hex.specs.Hex.{is_hex_digit};
 ghost use Rattle.grammar.specs.Language.{Reads, Many};
-ghost use Rattle.sql_literals.specs.Spelling.{Pair, OpenedHex, Hex};
+ghost use Rattle.sql_cells.specs.Spelling.{Pair, OpenedHex, Hex};
 
-use grammar::{behind, read_fixed};
+use grammar::{after, read_fixed};
 
 #[inline]
 fn is_hex_digit(byte: u8) -> bool
@@ -45,12 +45,12 @@ fn read_opened(bytes: &[u8]) -> Result<usize, usize>
     ensures { Reads OpenedHex bytes.now result }
 {
     let open = read_fixed(bytes, b"X'")?;
-    behind(open, read_pairs(&bytes[open..]))
+    after(open, read_pairs(&bytes[open..]))
 }
 
 pub(crate) fn read_hexadecimal(bytes: &[u8]) -> Result<usize, usize>
     ensures { Reads Hex bytes.now result }
 {
     let opened = read_opened(bytes)?;
-    behind(opened, read_fixed(&bytes[opened..], b"'"))
+    after(opened, read_fixed(&bytes[opened..], b"'"))
 }

@@ -1,10 +1,10 @@
 // Readers of numbers: an optional minus, digits, and maybe a point and digits.
 ghost use Rattle.std.specs.Prelude.{Ok};
 ghost use Rattle.grammar.specs.Language.{Reads, Then};
-ghost use Rattle.sql_literals.specs.Number.{Digits, Sign, Point, Fraction, Number};
+ghost use Rattle.sql_cells.specs.Number.{Digits, Sign, Point, Fraction, Number};
 
 use crate::number::digit_count;
-use grammar::{behind, first_byte, optional, read_fixed};
+use grammar::{after, first_byte, optional, read_fixed};
 
 #[inline]
 fn read_digits(bytes: &[u8]) -> Result<usize, usize>
@@ -27,7 +27,7 @@ pub(crate) fn read_whole(bytes: &[u8]) -> Result<usize, usize>
     ensures { Reads (Then Sign Digits) bytes.now result }
 {
     let sign = sign_size(bytes);
-    behind(sign, read_digits(&bytes[sign..]))
+    after(sign, read_digits(&bytes[sign..]))
 }
 
 // A point and digits.
@@ -35,7 +35,7 @@ pub(crate) fn read_point(bytes: &[u8]) -> Result<usize, usize>
     ensures { Reads Point bytes.now result }
 {
     let point = read_fixed(bytes, b".")?;
-    behind(point, read_digits(&bytes[point..]))
+    after(point, read_digits(&bytes[point..]))
 }
 
 fn read_fraction(bytes: &[u8]) -> Result<usize, usize>
@@ -48,5 +48,5 @@ pub(crate) fn read_number(bytes: &[u8]) -> Result<usize, usize>
     ensures { Reads Number bytes.now result }
 {
     let whole = read_whole(bytes)?;
-    behind(whole, read_fraction(&bytes[whole..]))
+    after(whole, read_fraction(&bytes[whole..]))
 }

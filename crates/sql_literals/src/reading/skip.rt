@@ -1,7 +1,7 @@
 // The longest literal in front.
 ghost use Rattle.grammar.specs.Language.{Longest, Skips, Many};
-ghost use Rattle.sql_literals.specs.Number.{Fraction, Number};
-ghost use Rattle.sql_literals.specs.Spelling.{Quoted, Text, Literal};
+ghost use Rattle.sql_cells.specs.Number.{Fraction, Number};
+ghost use Rattle.sql_cells.specs.Spelling.{Quoted, Text, Literal};
 
 use crate::reading::hexadecimal::read_hexadecimal;
 use crate::reading::literal::read_null;

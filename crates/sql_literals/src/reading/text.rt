@@ -1,10 +1,10 @@
-// Readers of strings: parts from quote to quote, one behind another.
+// Readers of strings: parts from quote to quote, one after another.
 ghost use Rattle.std.specs.Prelude.{◌≡◌};
 ghost use Rattle.grammar.specs.Language.{Reads, Many};
-ghost use Rattle.sql_literals.specs.Spelling.{is_letter, Inner, Opened, Quoted, Text};
+ghost use Rattle.sql_cells.specs.Spelling.{is_letter, Inner, Opened, Quoted, Text};
 
 use crate::special::plain_until;
-use grammar::{behind, read_fixed};
+use grammar::{after, read_fixed};
 
 #[inline]
 fn is_letter(byte: u8) -> bool
@@ -53,17 +53,17 @@ fn read_opened(bytes: &[u8]) -> Result<usize, usize>
     ensures { Reads Opened bytes.now result }
 {
     let open = read_fixed(bytes, b"'")?;
-    behind(open, read_inners(&bytes[open..]))
+    after(open, read_inners(&bytes[open..]))
 }
 
 pub(crate) fn read_quoted(bytes: &[u8]) -> Result<usize, usize>
     ensures { Reads Quoted bytes.now result }
 {
     let opened = read_opened(bytes)?;
-    behind(opened, read_fixed(&bytes[opened..], b"'"))
+    after(opened, read_fixed(&bytes[opened..], b"'"))
 }
 
-// The parts behind the first.
+// The parts after the first.
 fn read_more(bytes: &[u8]) -> Result<usize, usize>
     ensures { Reads (Many Quoted) bytes.now result }
 {
@@ -84,5 +84,5 @@ pub fn read_text(bytes: &[u8]) -> Result<usize, usize>
     ensures { Reads Text bytes.now result }
 {
     let first = read_quoted(bytes)?;
-    behind(first, read_more(&bytes[first..]))
+    after(first, read_more(&bytes[first..]))
 }

@@ -5,7 +5,7 @@ ghost use Rattle.statement_reading.specs.Readings.{IsRead, InRow};
 use crate::fault::StatementFault;
 use crate::reading::forms::{digest_form, fixed_form, name_form, text_form};
 use crate::reading::wholes::{create_form, insert_form};
-use sql_statements::{Command, Statement};
+use statement_forms::{Command, Statement};
 use std::alloc::Global;
 
 /// Which command it is.

@@ -2,7 +2,7 @@
 ghost use Rattle.std.specs.Prelude.{◌≡◌};
 ghost use Rattle.grammar.specs.Language.{Reads};
 ghost use Rattle.statement_reading.specs.Parts.{DigestText};
-ghost use Rattle.sql_statements.specs.Statement.{is_lower_digit};
+ghost use Rattle.statement_forms.specs.Statement.{is_lower_digit};
 
 fn is_lower_digit(byte: u8) -> bool
     ensures { result ≡ is_lower_digit byte }

@@ -1,17 +1,17 @@
 // Readers of the forms that several statements have.
 ghost use Rattle.std.specs.Prelude.{◌≡◌, ◌++◌};
-ghost use Rattle.sql_literals.specs.Literal.{quoted};
-ghost use Rattle.sql_literals.specs.Name.{quoted_name};
+ghost use Rattle.sql_cells.specs.Literal.{text_literal};
+ghost use Rattle.sql_cells.specs.Name.{quoted_name};
 ghost use Rattle.statement_reading.specs.Readings.{IsRead};
-ghost use Rattle.sql_statements.specs.Statement.{IsDigest};
-ghost use Rattle.sql_statements.specs.Text.{dotted};
+ghost use Rattle.statement_forms.specs.Statement.{IsDigest};
+ghost use Rattle.statement_forms.specs.Text.{dotted};
 
 use crate::fault::StatementFault;
 use crate::reading::kind::PartKind;
 use crate::reading::slot::{Slot, read_shape};
 use crate::reading::values::{Path, name_part, path_parts, path_texts, text_part};
 use grammar::read_fixed;
-use sql_statements::Part;
+use statement_forms::Part;
 use std::alloc::Global;
 
 /// One text.
@@ -36,7 +36,7 @@ pub(crate) fn text_form<'a>(
     word: &'a [u8],
     tail: &'a [u8],
 ) -> Result<Part<'a>, StatementFault>
-    ensures { IsRead (λ value bytes. bytes ≡ word.now ++ quoted value ++ tail.now) text.now result }
+    ensures { IsRead (λ value bytes. bytes ≡ word.now ++ text_literal value ++ tail.now) text.now result }
 {
     let shape = [
         Slot::Word(word),
@@ -60,7 +60,7 @@ pub(crate) fn texts_form<'a>(
     middle: &'a [u8],
     tail: &'a [u8],
 ) -> Result<Path<'a>, StatementFault>
-    ensures { IsRead (λ path bytes. bytes ≡ word.now ++ quoted path.schema ++ middle.now ++ quoted path.name ++ tail.now) text.now result }
+    ensures { IsRead (λ path bytes. bytes ≡ word.now ++ text_literal path.schema ++ middle.now ++ text_literal path.name ++ tail.now) text.now result }
 {
     let shape = [
         Slot::Word(word),
@@ -101,7 +101,7 @@ pub(crate) fn digest_form<'a>(
     }
 }
 
-/// A name behind a word.
+/// A name after a word.
 pub(crate) fn name_form<'a>(
     alloc: Global,
     text: &'a [u8],
@@ -119,7 +119,7 @@ pub(crate) fn name_form<'a>(
     }
 }
 
-/// A schema, a dot and a name behind a word.
+/// A schema, a dot and a name after a word.
 pub(crate) fn path_form<'a>(
     alloc: Global,
     text: &'a [u8],

@@ -1,10 +1,10 @@
 // Readers of quoted names, and of lists of them.
 ghost use Rattle.std.specs.Prelude.{Ok};
 ghost use Rattle.grammar.specs.Language.{Reads, Many, One};
-ghost use Rattle.sql_statements.specs.Insert.{is_inside, OpenedName, NamePart, QuotedName, NextName};
+ghost use Rattle.statement_forms.specs.Insert.{is_inside, OpenedName, NamePart, QuotedName, NextName};
 ghost use Rattle.statement_reading.specs.Parts.{Names};
 
-use grammar::{behind, read_fixed};
+use grammar::{after, read_fixed};
 
 // How many bytes come before the next backquote.
 fn inside_size(bytes: &[u8]) -> usize
@@ -22,14 +22,14 @@ fn read_opened_name(bytes: &[u8]) -> Result<usize, usize>
     ensures { Reads OpenedName bytes.now result }
 {
     let open = read_fixed(bytes, b"`")?;
-    behind(open, Ok(inside_size(&bytes[open..])))
+    after(open, Ok(inside_size(&bytes[open..])))
 }
 
 fn read_name_part(bytes: &[u8]) -> Result<usize, usize>
     ensures { Reads NamePart bytes.now result }
 {
     let opened = read_opened_name(bytes)?;
-    behind(opened, read_fixed(&bytes[opened..], b"`"))
+    after(opened, read_fixed(&bytes[opened..], b"`"))
 }
 
 fn read_name_parts(bytes: &[u8]) -> Result<usize, usize>
@@ -50,7 +50,7 @@ pub(crate) fn read_name(bytes: &[u8]) -> Result<usize, usize>
     ensures { Reads QuotedName bytes.now result }
 {
     let first = read_name_part(bytes)?;
-    behind(first, read_name_parts(&bytes[first..]))
+    after(first, read_name_parts(&bytes[first..]))
 }
 
 // A comma and a name.
@@ -58,7 +58,7 @@ pub(crate) fn read_next_name(bytes: &[u8]) -> Result<usize, usize>
     ensures { Reads NextName bytes.now result }
 {
     let comma = read_fixed(bytes, b",")?;
-    behind(comma, read_name(&bytes[comma..]))
+    after(comma, read_name(&bytes[comma..]))
 }
 
 fn read_next_names(bytes: &[u8]) -> Result<usize, usize>
@@ -79,5 +79,5 @@ pub(crate) fn read_names(bytes: &[u8]) -> Result<usize, usize>
     ensures { Reads Names bytes.now result }
 {
     let first = read_name(bytes)?;
-    behind(first, read_next_names(&bytes[first..]))
+    after(first, read_next_names(&bytes[first..]))
 }

@@ -6,10 +6,10 @@ use crate::reading::kind::PartKind::{Bound, Count, Name, NameList};
 use crate::reading::slot::Slot::{Again, Part, Word};
 use crate::reading::slot::read_shape;
 use crate::reading::values::{bound_value, count_value, key_parts, keyed_parts, source_parts};
-use sql_statements::{Query, Statement};
+use statement_forms::{Query, Statement};
 use std::alloc::Global;
 
-/// One key of a table, in order, behind so many others.
+/// One key of a table, in order, after so many others.
 pub(crate) fn key_query<'a>(alloc: Global, text: &'a [u8]) -> Result<Statement<'a>, StatementFault>
     ensures { IsRead (InRow 40) text.now result }
 {
@@ -44,7 +44,7 @@ pub(crate) fn key_query<'a>(alloc: Global, text: &'a [u8]) -> Result<Statement<'
     }
 }
 
-/// One key above a bound, behind so many others.
+/// One key above a bound, after so many others.
 pub(crate) fn key_above_query<'a>(
     alloc: Global,
     text: &'a [u8],

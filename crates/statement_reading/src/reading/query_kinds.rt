@@ -8,7 +8,7 @@ use crate::reading::queries::{
     key_above_query, key_query, rows_above_query, rows_between_query, rows_by_key_query,
     rows_query, rows_up_to_query,
 };
-use sql_statements::{Query, Statement};
+use statement_forms::{Query, Statement};
 use std::alloc::Global;
 
 /// Which query it is.

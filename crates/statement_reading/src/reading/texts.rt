@@ -1,10 +1,10 @@
-// Readers of texts between single quotes, as they are written: the special bytes behind backslashes,
+// Readers of texts between single quotes, as they are written: the special bytes after backslashes,
 // and no others.
 ghost use Rattle.std.specs.Prelude.{◌≡◌};
 ghost use Rattle.grammar.specs.Language.{Reads, Many};
 ghost use Rattle.statement_reading.specs.Parts.{is_own, is_written_letter, WrittenByte, OpenedText, WrittenText};
 
-use grammar::{behind, read_fixed};
+use grammar::{after, read_fixed};
 
 #[inline]
 fn is_own(byte: u8) -> bool
@@ -64,12 +64,12 @@ fn read_opened_text(bytes: &[u8]) -> Result<usize, usize>
     ensures { Reads OpenedText bytes.now result }
 {
     let open = read_fixed(bytes, b"'")?;
-    behind(open, read_written_bytes(&bytes[open..]))
+    after(open, read_written_bytes(&bytes[open..]))
 }
 
 pub(crate) fn read_written_text(bytes: &[u8]) -> Result<usize, usize>
     ensures { Reads WrittenText bytes.now result }
 {
     let opened = read_opened_text(bytes)?;
-    behind(opened, read_fixed(&bytes[opened..], b"'"))
+    after(opened, read_fixed(&bytes[opened..], b"'"))
 }

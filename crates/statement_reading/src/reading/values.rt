@@ -2,19 +2,19 @@
 ghost use Rattle.std.specs.Prelude.{◌≡◌, ◌-◌, ◌<◌, ◌≤◌, ◌^◌, decimal, length, take, drop, pos, negsuc, IfOk};
 ghost use Rattle.std.specs.Fmt.{signed_decimal};
 ghost use Rattle.std.specs.List.{flat_map, list_any};
-ghost use Rattle.sql_literals.specs.Literal.{quoted};
-ghost use Rattle.sql_literals.specs.Name.{name_byte, quoted_name};
-ghost use Rattle.sql_statements.specs.Insert.{QuotedName};
+ghost use Rattle.sql_cells.specs.Literal.{text_literal};
+ghost use Rattle.sql_cells.specs.Name.{name_byte, quoted_name};
+ghost use Rattle.statement_forms.specs.Insert.{QuotedName};
 ghost use Rattle.statement_reading.specs.Parts.{Names, WrittenText, DigestText, Within, BoundText};
 ghost use Rattle.statement_reading.specs.Readings.{IsDoubled, has_byte};
-ghost use Rattle.sql_statements.specs.Statement.{IsI128};
-ghost use Rattle.sql_statements.specs.Text.{names};
+ghost use Rattle.statement_forms.specs.Statement.{IsI128};
+ghost use Rattle.statement_forms.specs.Text.{names};
 
 use crate::reading::names::read_name;
 use crate::reading::numbers::read_number;
-use plain_data::{OutOfMemory, PlainList};
-use sql_literals::{Bytes, unescape};
-use sql_statements::{Part, PartList};
+use plain_data::{Bytes, OutOfMemory, PlainList};
+use sql_literals::unescape;
+use statement_forms::{Part, PartList};
 use std::alloc::Global;
 
 /// A schema, and what stands in it.
@@ -95,7 +95,7 @@ pub(crate) fn name_part<'a>(alloc: Global, text: &'a [u8]) -> Result<Part<'a>, O
 /// The text that is written so: borrowed where nothing is escaped.
 pub(crate) fn text_part<'a>(alloc: Global, text: &'a [u8]) -> Result<Part<'a>, OutOfMemory>
     requires { WrittenText text.now }
-    ensures { IfOk result (λ part. quoted part ≡ text.now) }
+    ensures { IfOk result (λ part. text_literal part ≡ text.now) }
 {
     let inner = inside(text);
     if has_byte(inner, b'\\') {
@@ -148,7 +148,7 @@ pub(crate) fn path_texts<'a>(
 ) -> Result<Path<'a>, OutOfMemory>
     requires schema { WrittenText schema.now }
     requires name { WrittenText name.now }
-    ensures { IfOk result (λ path. (quoted path.schema ≡ schema.now) × (quoted path.name ≡ name.now)) }
+    ensures { IfOk result (λ path. (text_literal path.schema ≡ schema.now) × (text_literal path.name ≡ name.now)) }
 {
     Ok(Path {
         schema: text_part(alloc, schema)?,

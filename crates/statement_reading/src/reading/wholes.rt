@@ -1,13 +1,13 @@
 // Readers of statements that are kept whole: the texts of objects, and the INSERTs of data files.
 ghost use Rattle.std.specs.Prelude.{◌≡◌};
-ghost use Rattle.object_texts.specs.Head.{HasHead};
-ghost use Rattle.sql_statements.specs.Insert.{AnyInsert};
+ghost use Rattle.object_forms.specs.Head.{HasHead};
+ghost use Rattle.statement_forms.specs.Insert.{AnyInsert};
 ghost use Rattle.statement_reading.specs.Readings.{IsRead};
 
 use crate::fault::StatementFault;
 use crate::insert::check_any_insert;
 use object_texts::check_head;
-use sql_statements::WholeText;
+use statement_forms::WholeText;
 
 /// An object's text.
 pub(crate) fn create_form<'a>(text: &'a [u8]) -> Result<WholeText<'a>, StatementFault>

@@ -1,6 +1,6 @@
 use Rattle.dumper_cli.proofs.Reaching.{Keeps-by, names_ok, names_err}
 use Rattle.my_session.proofs.Uncreating.{makes_nothing}
-use Rattle.sql_statements.specs.declared.command.Command.TheVariants.{NamesBinary}
+use Rattle.statement_forms.specs.declared.command.Command.TheVariants.{NamesBinary}
 use Rattle.dumper_cli.proofs.conversation.set_names.Goals as goal
 
 pub returns-clause-keeps : goal.returns-clause-keeps

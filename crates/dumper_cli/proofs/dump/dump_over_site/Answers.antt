@@ -1,6 +1,6 @@
 use Rattle.std.proofs.Common.{true, ◌∙◌, ap}
 use Rattle.std.proofs.lemmas.Result.{on_ok_weaker, IfErr-weaker}
-use Rattle.link_traits.specs.Site.{returned}
+use Rattle.link_traits.specs.Site.{told_after_return}
 use Rattle.dumper_cli.specs.AskedBy.{asked_by}
 use Rattle.my_session.proofs.Stepping.{new_link_greets}
 use Rattle.dumper_cli.proofs.OverSite.{Rose-back, EndedBy-stopped, SaidAtMost-stopped, SiteTabled-dumped}
@@ -10,7 +10,7 @@ pub returns-clause-ok : goal.returns-clause-ok
 returns-clause-ok g c = on_ok_weaker c.dump_over_link-link.result.result (λ dumped.
     SiteTabled-dumped g.T.Link.Link g.S.Shelf (asked_by c.args.words.now) (g.T.Site.told c.args.site.now) c.in-Ok.link (g.T.Site.tells c.args.site.now) (g.T.Site.told c.give_back.new.self) c.dump_over_link-link.result.link c.args.shelf c.dump_over_link-link.result.shelf
     (λ t. c.dump_over_link-link.ensures.link_tells.0 (c.in-Ok.ensures.link_tells t)) c.in-Ok.ensures.begins
-    (λ t. c.give_back.ensures.told (c.in-Ok.ensures.tells.0 t) ∙ ap (λ s. returned s (g.T.Link.Link.told c.dump_over_link-link.result.link).sent) (c.in-Ok.ensures.told t))
+    (λ t. c.give_back.ensures.told (c.in-Ok.ensures.tells.0 t) ∙ ap (λ s. told_after_return s (g.T.Link.Link.told c.dump_over_link-link.result.link).sent) (c.in-Ok.ensures.told t))
     _
     (λ rose. Rose-back (g.T.Site.faults c.args.site.now) (g.T.Link.Link.faults c.in-Ok.link) (g.T.Link.Link.faults c.dump_over_link-link.result.link) (g.T.Site.faults c.connect_sole.new.self) (g.T.Site.faults c.give_back.new.self) c.in-Ok.ensures.cause.later rose c.give_back.ensures.faults)
     dumped)
@@ -28,7 +28,7 @@ pub returns-clause-said : goal.returns-clause-said
 returns-clause-said g c = IfErr-weaker c.dump_over_link-link.result.result _ _ (λ fault stopped.
     SaidAtMost-stopped g.T.Link.Link g.S.Shelf (asked_by c.args.words.now) (g.T.Site.told c.args.site.now) c.in-Ok.link (g.T.Site.tells c.args.site.now) (g.T.Site.told c.give_back.new.self) c.dump_over_link-link.result.link c.args.shelf c.dump_over_link-link.result.shelf
     (λ t. c.dump_over_link-link.ensures.link_tells.0 (c.in-Ok.ensures.link_tells t)) c.in-Ok.ensures.begins
-    (λ t. c.give_back.ensures.told (c.in-Ok.ensures.tells.0 t) ∙ ap (λ s. returned s (g.T.Link.Link.told c.dump_over_link-link.result.link).sent) (c.in-Ok.ensures.told t))
+    (λ t. c.give_back.ensures.told (c.in-Ok.ensures.tells.0 t) ∙ ap (λ s. told_after_return s (g.T.Link.Link.told c.dump_over_link-link.result.link).sent) (c.in-Ok.ensures.told t))
     fault stopped)
     c.dump_over_link-link.ensures.err
 

@@ -1,6 +1,6 @@
 -- the bytes so far
 use Rattle.std.proofs.Common.{◌≡◌, length, take}
-use Rattle.my_login.specs.Answer.{xor_of}
+use Rattle.wire_forms.specs.Answer.{xor_of}
 use Rattle.my_login.proofs.answer.xor_of.Given as goal
 
 abbrev pub invariant-loop-i : goal.invariant-loop-i

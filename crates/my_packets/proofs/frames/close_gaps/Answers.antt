@@ -8,7 +8,7 @@ full_packets-init c = record {
   packet_is = omega arith;
   order = omega arith;
   len = refl;
-  closing = λ id message behind bytes_are size_is. closing_start c.args.end id message behind c.args.store.now.items c.args.size bytes_are size_is;
+  closing = λ id message after bytes_are size_is. closing_start c.args.end id message after c.args.store.now.items c.args.size bytes_are size_is;
 }
 
 pub full_packets-preserved : goal.full_packets-preserved
@@ -17,15 +17,15 @@ full_packets-preserved c = record {
   packet_is = omega arith;
   order = omega arith;
   len = omega (arith, c.copy_within.ensures.len);
-  closing = λ id message behind bytes_are size_is.
-      closing_more c.args.end message behind c.args.store.now.items c.full_packets.to c.full_packets.packet c.full_packets.left c.full_packets.store.items c.copy_within.new.self.items
-      (c.full_packets.invariant.closing id message behind bytes_are size_is) c.full_packets.invariant.order c.full_packets-test.true c.copy_within.ensures.items (omega arith);
+  closing = λ id message after bytes_are size_is.
+      closing_more c.args.end message after c.args.store.now.items c.full_packets.to c.full_packets.packet c.full_packets.left c.full_packets.store.items c.copy_within.new.self.items
+      (c.full_packets.invariant.closing id message after bytes_are size_is) c.full_packets.invariant.order c.full_packets-test.true c.copy_within.ensures.items (omega arith);
 }
 
 pub returns : goal.returns
 returns c = record {
   length = omega (arith, c.copy_within-2.ensures.len);
-  joined = λ id message behind bytes_are size_is.
-      closing_end c.args.end message behind c.args.store.now.items c.full_packets.to c.full_packets.packet c.full_packets.left c.full_packets.store.items c.copy_within-2.new.self.items
-      (c.full_packets.invariant.closing id message behind bytes_are size_is) c.full_packets.invariant.order (omega arith) c.full_packets-test.false c.copy_within-2.ensures.items (omega arith) (omega arith) (omega arith);
+  joined = λ id message after bytes_are size_is.
+      closing_end c.args.end message after c.args.store.now.items c.full_packets.to c.full_packets.packet c.full_packets.left c.full_packets.store.items c.copy_within-2.new.self.items
+      (c.full_packets.invariant.closing id message after bytes_are size_is) c.full_packets.invariant.order (omega arith) c.full_packets-test.false c.copy_within-2.ensures.items (omega arith) (omega arith) (omega arith);
 }

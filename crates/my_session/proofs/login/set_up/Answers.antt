@@ -1,5 +1,5 @@
 use Rattle.std.proofs.Common.{refl}
-use Rattle.sql_statements.specs.declared.command.Command.TheVariants.{SetUp}
+use Rattle.statement_forms.specs.declared.command.Command.TheVariants.{SetUp}
 use Rattle.my_session.specs.Channel.{channel_wire}
 use Rattle.my_session.specs.declared.fault.SessionFault.TheVariants.{OutOfMemory}
 use Rattle.my_session.proofs.Running.{run_unwritten}

@@ -1,5 +1,5 @@
 use Rattle.std.proofs.Common.{arith, refl, sym, subst, ap, ◌∙◌, ◌-◌}
-use Rattle.result_rows.specs.Reading.{Reading}
+use Rattle.wire_forms.specs.Reading.{Reading}
 use Rattle.my_session.specs.Channel.{channel_wire}
 use Rattle.my_session.specs.Statements.{IsDescribed}
 use Rattle.my_session.specs.Wire.{Takes}

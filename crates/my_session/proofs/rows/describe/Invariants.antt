@@ -1,5 +1,5 @@
 use Rattle.std.proofs.Common.{◌≡◌, ◌≤◌, ◌↔◌, false}
-use Rattle.result_rows.specs.Reading.{counted}
+use Rattle.wire_forms.specs.Reading.{columns_counted}
 use Rattle.my_session.specs.Channel.{channel_wire}
 use Rattle.my_session.specs.InStep.{IsOpen}
 use Rattle.my_session.specs.Serving.{Stays}
@@ -16,7 +16,7 @@ invariant-definitions g l = record {
   alive : l.channel.has_failed ≡ false;
   columns : l.reader.columns ≡ l.columns;
   awaited : l.reader.awaited ≡ l.left;
-  described : (start : Wire) → g.L.Link.tells l.fn.channel.link → Takes (λ steps. IsDescribed l.query steps (counted l.columns)) start (channel_wire g.L.Link l.fn.channel) → Takes (λ steps. IsDescribed l.query steps l.reader) start (channel_wire g.L.Link l.channel);
+  described : (start : Wire) → g.L.Link.tells l.fn.channel.link → Takes (λ steps. IsDescribed l.query steps (columns_counted l.columns)) start (channel_wire g.L.Link l.fn.channel) → Takes (λ steps. IsDescribed l.query steps l.reader) start (channel_wire g.L.Link l.channel);
 }
 
 abbrev pub decreases-definitions : goal.decreases-definitions

@@ -1,5 +1,5 @@
 use Rattle.std.proofs.Common.{ℕ, List, sym, ◌∙◌, ap}
-use Rattle.result_rows.specs.Reading.{further_of}
+use Rattle.wire_forms.specs.Reading.{further_of}
 use Rattle.my_session.proofs.Stepping.{rest_comes, definition_heard}
 use Rattle.my_session.proofs.rows.hear_definition.Goals as goal
 

@@ -1,5 +1,5 @@
 use Rattle.std.proofs.Common.{sym}
-use Rattle.sql_statements.specs.declared.command.Command.TheVariants.{Use}
+use Rattle.statement_forms.specs.declared.command.Command.TheVariants.{Use}
 use Rattle.my_session.specs.Channel.{channel_wire}
 use Rattle.my_session.proofs.Querying.{led, not_led, takes_no_lead}
 use Rattle.my_session.proofs.Running.{ok_where, err_where}

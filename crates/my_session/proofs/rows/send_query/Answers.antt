@@ -1,6 +1,6 @@
 use Rattle.std.proofs.Common.{◌∙◌}
 use Rattle.std.proofs.lemmas.Result.{on_ok_weaker}
-use Rattle.sql_statements.specs.Text.{query_text}
+use Rattle.statement_forms.specs.Text.{query_text}
 use Rattle.my_session.proofs.Stepping.{said_text}
 use Rattle.my_session.proofs.Uncreating.{query_says_nothing}
 use Rattle.my_session.proofs.rows.send_query.Goals as goal

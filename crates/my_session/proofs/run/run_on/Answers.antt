@@ -4,7 +4,7 @@ use Rattle.my_session.specs.Channel.{channel_wire}
 use Rattle.my_session.proofs.Running.{run_unwritten, run_unsaid, runs_by}
 use Rattle.my_session.proofs.Stepping.{reply_comes, said_text, answered}
 use Rattle.my_session.proofs.Uncreating.{says_nothing}
-use Rattle.sql_statements.specs.Text.{command_text}
+use Rattle.statement_forms.specs.Text.{command_text}
 use Rattle.my_session.proofs.run.run_on.Goals as goal
 
 pub say-requires-clause-no_create : goal.say-requires-clause-no_create

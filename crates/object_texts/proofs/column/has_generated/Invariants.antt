@@ -1,6 +1,6 @@
 use Rattle.std.proofs.Common.{◌≡◌, length}
-use Rattle.object_texts.specs.Shape.{has_generated}
-use Rattle.object_texts.specs.Token.{tokens}
+use Rattle.object_forms.specs.Shape.{has_generated}
+use Rattle.object_forms.specs.Token.{tokens}
 use Rattle.object_texts.proofs.column.has_generated.Given as goal
 
 abbrev pub invariant-tokens : goal.invariant-tokens

@@ -1,6 +1,6 @@
 use Rattle.std.proofs.Common.{◌≡◌, length}
-use Rattle.object_texts.specs.Shape.{has_word}
-use Rattle.object_texts.specs.Token.{tokens}
+use Rattle.object_forms.specs.Shape.{has_word}
+use Rattle.object_forms.specs.Token.{tokens}
 use Rattle.object_texts.proofs.column.has_word.Given as goal
 
 abbrev pub invariant-tokens : goal.invariant-tokens

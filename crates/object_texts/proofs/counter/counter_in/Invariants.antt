@@ -1,6 +1,6 @@
 use Rattle.std.proofs.Common.{◌≡◌, length}
-use Rattle.object_texts.specs.Shape.{counter_in}
-use Rattle.object_texts.specs.Token.{tokens}
+use Rattle.object_forms.specs.Shape.{counter_in}
+use Rattle.object_forms.specs.Token.{tokens}
 use Rattle.object_texts.proofs.counter.counter_in.Given as goal
 
 abbrev pub invariant-tokens : goal.invariant-tokens

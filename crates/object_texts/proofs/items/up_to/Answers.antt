@@ -1,10 +1,10 @@
 use Rattle.std.proofs.Common.{sym, subst, arith}
 use Rattle.object_texts.specs.Reading.{token_of}
-use Rattle.object_texts.specs.Shape.{up_to}
+use Rattle.object_forms.specs.Shape.{up_to}
 use Rattle.object_texts.specs.Left.{IsLeft}
-use Rattle.object_texts.specs.Token.{tokens}
+use Rattle.object_forms.specs.Token.{tokens}
 use Rattle.object_texts.proofs.Cuts.{left-all, left-next}
-use Rattle.object_texts.proofs.Parts.{cut-next, cut-none, depth_behind-le}
+use Rattle.object_texts.proofs.Parts.{cut-next, cut-none, depth_after-le}
 use Rattle.object_texts.proofs.items.up_to.Goals as goal
 
 pub tokens-init : goal.tokens-init
@@ -12,10 +12,10 @@ tokens-init c = record { left = left-all c.args.text.now; deep = omega arith; cu
 
 pub tokens-preserved : goal.tokens-preserved
 tokens-preserved c =
-    let later : IsLeft c.args.text.now c.in-Some.behind.now = subst (IsLeft c.args.text.now) (sym c.in-Some.ensures.behind) (left-next c.args.text.now c.tokens.rest.now c.tokens.invariant.left) in
-    let deeper = depth_behind-le (token_of c.in-Some.token) c.tokens.depth in
+    let later : IsLeft c.args.text.now c.in-Some.after.now = subst (IsLeft c.args.text.now) (sym c.in-Some.ensures.after) (left-next c.args.text.now c.tokens.rest.now c.tokens.invariant.left) in
+    let deeper = depth_after-le (token_of c.in-Some.token) c.tokens.depth in
     record {
       left = later;
       deep = omega (arith, c.in-Some.ensures.shorter);
-      cut = rw c.depth_behind-depth.ensures (cut-next c.args.byte c.tokens.depth c.args.text.now c.tokens.rest.now c.in-Some.behind.now (token_of c.in-Some.token) c.tokens.invariant.left later c.in-Some.ensures.first (sym c.if-ends.ensures) c.tokens.invariant.cut);
+      cut = rw c.depth_after-depth.ensures (cut-next c.args.byte c.tokens.depth c.args.text.now c.tokens.rest.now c.in-Some.after.now (token_of c.in-Some.token) c.tokens.invariant.left later c.in-Some.ensures.first (sym c.if-ends.ensures) c.tokens.invariant.cut);
     }

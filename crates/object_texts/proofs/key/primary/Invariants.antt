@@ -1,6 +1,6 @@
 use Rattle.std.proofs.Common.{◌≡◌, length}
-use Rattle.object_texts.specs.Shape.{parts, primary}
-use Rattle.object_texts.specs.Token.{tokens}
+use Rattle.object_forms.specs.Shape.{parts, primary}
+use Rattle.object_forms.specs.Token.{tokens}
 use Rattle.object_texts.proofs.key.primary.Given as goal
 
 abbrev pub invariant-items : goal.invariant-items

@@ -1,5 +1,5 @@
 use Rattle.std.proofs.Common.{◌≡◌, ◌-◌, length, drop}
-use Rattle.object_texts.specs.Token.{closing, more}
+use Rattle.object_forms.specs.Token.{closing, more}
 use Rattle.object_texts.proofs.token.closing.Given as goal
 
 abbrev pub invariant-quoted : goal.invariant-quoted

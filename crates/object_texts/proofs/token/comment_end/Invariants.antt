@@ -1,5 +1,5 @@
 use Rattle.std.proofs.Common.{◌≡◌, ◌-◌, ◌≤◌, length, drop}
-use Rattle.object_texts.specs.Token.{comment_end, more}
+use Rattle.object_forms.specs.Token.{comment_end, more}
 use Rattle.object_texts.proofs.token.comment_end.Given as goal
 
 abbrev pub invariant-commented : goal.invariant-commented

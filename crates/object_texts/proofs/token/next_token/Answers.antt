@@ -1,5 +1,5 @@
 use Rattle.std.proofs.Common.{length, drop, ◌∙◌, ap, arith, length-drop}
-use Rattle.object_texts.specs.Token.{Lexeme}
+use Rattle.object_forms.specs.Token.{Lexeme}
 use Rattle.object_texts.specs.Reading.{token_of}
 use Rattle.object_texts.proofs.Tokens.{first-read}
 use Rattle.object_texts.proofs.token.next_token.Goals as goal
@@ -17,5 +17,5 @@ returns-clause-shorter c =
 pub split_at-requires : goal.split_at-requires
 split_at-requires c = (first-read c.args.text.now c.in_ok-first.first.size (token_of c.in_ok-first.first.token) c.in_ok-first.ensures.0 c.in_ok-first.ensures.1).within
 
-pub returns-clause-behind : goal.returns-clause-behind
-returns-clause-behind c = c.split_at.ensures.back ∙ ap (λ (found : Lexeme). drop found.size c.args.text.now) c.in_ok-first.ensures.1
+pub returns-clause-after : goal.returns-clause-after
+returns-clause-after c = c.split_at.ensures.back ∙ ap (λ (found : Lexeme). drop found.size c.args.text.now) c.in_ok-first.ensures.1

@@ -1,6 +1,6 @@
 use Rattle.std.proofs.Common.{◌≡◌, length}
 use Rattle.object_texts.specs.Left.{IsLeft}
-use Rattle.object_texts.specs.Token.{past_gaps, tokens}
+use Rattle.object_forms.specs.Token.{past_gaps, tokens}
 use Rattle.object_texts.proofs.token.past_gaps.Given as goal
 
 abbrev pub invariant-gaps : goal.invariant-gaps

@@ -1,5 +1,5 @@
 use Rattle.std.proofs.Common.{◌≡◌, length}
-use Rattle.object_texts.specs.Token.{past_spaces, tokens}
+use Rattle.object_forms.specs.Token.{past_spaces, tokens}
 use Rattle.object_texts.proofs.token.past_spaces.Given as goal
 
 abbrev pub invariant-spaces : goal.invariant-spaces

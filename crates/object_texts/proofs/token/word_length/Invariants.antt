@@ -1,6 +1,6 @@
 use Rattle.std.proofs.Common.{◌≡◌, ◌+◌, drop}
 use Rattle.std.specs.List.{prefix_len}
-use Rattle.object_texts.specs.Token.{is_word_byte}
+use Rattle.object_forms.specs.Token.{is_word_byte}
 use Rattle.object_texts.proofs.token.word_length.Given as goal
 
 abbrev pub invariant-loop-i : goal.invariant-loop-i

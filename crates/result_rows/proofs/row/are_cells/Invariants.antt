@@ -1,6 +1,6 @@
 -- the payload is so many cells exactly where the bytes that are left are those that are left
 use Rattle.std.proofs.Common.{◌≡◌, ◌-◌, is_some}
-use Rattle.result_rows.specs.Row.{cells_of}
+use Rattle.wire_forms.specs.Row.{cells_of}
 use Rattle.result_rows.proofs.row.are_cells.Given as goal
 
 abbrev pub invariant-loop : goal.invariant-loop

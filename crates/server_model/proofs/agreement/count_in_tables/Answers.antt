@@ -1,5 +1,5 @@
 use Rattle.std.proofs.Common.{arith}
-use Rattle.server_model.proofs.Counts.{bound_step, count_end, count_step}
+use Rattle.server_data.proofs.Counts.{bound_step, count_end, count_step}
 use Rattle.server_model.proofs.agreement.count_in_tables.Goals as goal
 
 pub tables-preserved : goal.tables-preserved

@@ -1,6 +1,6 @@
 use Rattle.std.proofs.Common.{◌≡◌, ◌≤◌, ◌+◌, ◌*◌, length}
-use Rattle.server_model.specs.Bag.{count_of}
-use Rattle.server_model.specs.Fold.{rows_in}
+use Rattle.server_data.specs.Bag.{count_of}
+use Rattle.server_data.specs.Fold.{rows_in}
 use Rattle.server_model.proofs.agreement.count_in_tables.Given as goal
 
 abbrev pub invariant-tables : goal.invariant-tables

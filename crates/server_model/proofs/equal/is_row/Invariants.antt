@@ -1,5 +1,5 @@
 use Rattle.std.proofs.Common.{◌≡◌, length}
-use Rattle.server_model.specs.Equal.{row_eq}
+use Rattle.server_data.specs.Equal.{row_eq}
 use Rattle.server_model.proofs.equal.is_row.Given as goal
 
 abbrev pub invariant-cells : goal.invariant-cells

@@ -1,7 +1,7 @@
 use Rattle.std.proofs.Common.{◌≡◌, ◌++◌, length, not}
 use Rattle.std.specs.Prelude.{filter}
-use Rattle.server_model.specs.Fold.{is_object}
-use Rattle.server_model.specs.declared.data.Object.{Object}
+use Rattle.server_data.specs.Fold.{is_object}
+use Rattle.server_data.specs.declared.data.Object.{Object}
 use Rattle.server_model.proofs.fold.objects_without.Given as goal
 
 abbrev pub invariant-objects : goal.invariant-objects

@@ -1,7 +1,7 @@
 use Rattle.std.proofs.Common.{◌≡◌, ◌++◌, length, not}
 use Rattle.std.specs.Prelude.{filter}
-use Rattle.server_model.specs.Fold.{is_of_table}
-use Rattle.server_model.specs.declared.data.TableRows.{TableRows}
+use Rattle.server_data.specs.Fold.{is_of_table}
+use Rattle.server_data.specs.declared.data.TableRows.{TableRows}
 use Rattle.server_model.proofs.fold.tables_without.Given as goal
 
 abbrev pub invariant-tables : goal.invariant-tables

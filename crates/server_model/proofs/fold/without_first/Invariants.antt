@@ -1,7 +1,7 @@
 use Rattle.std.proofs.Common.{◌≡◌, ◌++◌, List, length}
 use Rattle.std.specs.Prelude.{option_map}
-use Rattle.sql_literals.specs.declared.cell.Cell.{Cell}
-use Rattle.server_model.specs.Fold.{without_first}
+use Rattle.sql_cells.specs.declared.cell.Cell.{Cell}
+use Rattle.server_data.specs.Fold.{without_first}
 use Rattle.server_model.proofs.fold.without_first.Given as goal
 
 abbrev pub invariant-rows : goal.invariant-rows

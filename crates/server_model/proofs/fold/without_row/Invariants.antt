@@ -1,7 +1,7 @@
 use Rattle.std.proofs.Common.{◌≡◌, ◌++◌, List, length}
 use Rattle.std.specs.Prelude.{option_map}
-use Rattle.server_model.specs.Fold.{without_row}
-use Rattle.server_model.specs.declared.data.TableRows.{TableRows}
+use Rattle.server_data.specs.Fold.{without_row}
+use Rattle.server_data.specs.declared.data.TableRows.{TableRows}
 use Rattle.server_model.proofs.fold.without_row.Given as goal
 
 abbrev pub invariant-tables : goal.invariant-tables

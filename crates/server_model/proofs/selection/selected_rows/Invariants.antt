@@ -1,6 +1,6 @@
 use Rattle.std.proofs.Common.{◌≡◌, ◌++◌, length}
 use Rattle.std.specs.Prelude.{filter}
-use Rattle.server_model.specs.Select.{selects_rows}
+use Rattle.server_data.specs.Select.{selects_rows}
 use Rattle.server_model.proofs.selection.selected_rows.Given as goal
 
 abbrev pub invariant-tables : goal.invariant-tables

@@ -1,6 +1,6 @@
 use Rattle.std.proofs.Common.{◌≡◌, ◌+◌, ◌≤◌, ◌++◌, take, drop, length}
 use Rattle.std.specs.List.{flat_map}
-use Rattle.sql_literals.specs.Name.{name_byte}
+use Rattle.sql_cells.specs.Name.{name_byte}
 use Rattle.sql_literals.proofs.name.push_name.Given as goal
 
 abbrev pub invariant-loop-byte : goal.invariant-loop-byte

@@ -4,7 +4,7 @@ use lib.Count.{count_trailing_zeros}
 use Rattle.std.specs.List.{prefix_len}
 use Rattle.std.proofs.lemmas.Bool.Decides.{nat_tests}
 use Rattle.std.proofs.lemmas.Simd.{first_set_mask_l, run_in_chunk_fails, run_in_chunk_le, length-chunk, none_from_empty_mask}
-use Rattle.sql_literals.specs.Literal.{is_special}
+use Rattle.sql_cells.specs.Literal.{is_special}
 use Rattle.sql_literals.proofs.special.plain_lanes.Goals as goal
 
 counted : (xs : List ℕ) (i bits : ℕ) → i + 16 ≤ length xs → bits ≡ mask_l (map is_special (chunk i 16 xs)) → bits ≢ 0 → count_trailing_zeros 64 bits ≡ prefix_len (λ x. not (is_special x)) (chunk i 16 xs)

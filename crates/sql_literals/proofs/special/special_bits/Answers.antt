@@ -3,7 +3,7 @@ use Rattle.std.specs.Simd.Lanes.{mask_l}
 use Rattle.std.proofs.lemmas.List.{length-map}
 use Rattle.std.proofs.lemmas.Simd.{bitmask_splat}
 use Rattle.sql_literals.proofs.Marks.{mark_high}
-use Rattle.sql_literals.specs.Literal.{is_special}
+use Rattle.sql_cells.specs.Literal.{is_special}
 use Rattle.sql_literals.proofs.special.special_bits.Goals as goal
 
 pub returns : goal.returns

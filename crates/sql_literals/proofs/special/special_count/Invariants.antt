@@ -1,6 +1,6 @@
 use Rattle.std.proofs.Common.{◌≡◌, ◌-◌, ◌≤◌, length, take}
 use Rattle.std.specs.List.{count_by}
-use Rattle.sql_literals.specs.Literal.{is_special}
+use Rattle.sql_cells.specs.Literal.{is_special}
 use Rattle.sql_literals.proofs.special.special_count.Given as goal
 
 abbrev pub invariant-wide : goal.invariant-wide

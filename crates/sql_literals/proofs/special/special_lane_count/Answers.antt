@@ -3,7 +3,7 @@ use Rattle.std.specs.Simd.Lanes.{chunk}
 use Rattle.std.specs.Int.RustNames.{count_ones}
 use Rattle.std.proofs.lemmas.Simd.{ones-mask_l, length-chunk}
 use Rattle.std.proofs.lemmas.List.Sums.{count_by-le-length}
-use Rattle.sql_literals.specs.Literal.{is_special}
+use Rattle.sql_cells.specs.Literal.{is_special}
 use Rattle.sql_literals.proofs.special.special_lane_count.Goals as goal
 
 pub returns : goal.returns

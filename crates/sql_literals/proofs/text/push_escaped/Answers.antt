@@ -1,5 +1,5 @@
 use Rattle.std.specs.List.{flat_map}
-use Rattle.sql_literals.specs.Literal.{escaped_byte}
+use Rattle.sql_cells.specs.Literal.{escaped_byte}
 use Rattle.std.proofs.Common.{◌≡◌, length, take, ap, arith, length-append}
 use Rattle.std.proofs.lemmas.Grind.{common_steps}
 use Rattle.std.proofs.lemmas.List.{take_all}

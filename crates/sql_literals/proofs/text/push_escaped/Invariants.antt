@@ -1,6 +1,6 @@
 use Rattle.std.proofs.Common.{◌≡◌, ◌+◌, ◌≤◌, ◌++◌, ◌-◌, take, drop, length}
 use Rattle.std.specs.List.{flat_map}
-use Rattle.sql_literals.specs.Literal.{escaped_byte}
+use Rattle.sql_cells.specs.Literal.{escaped_byte}
 use Rattle.sql_literals.proofs.text.push_escaped.Given as goal
 
 abbrev pub invariant-runs : goal.invariant-runs

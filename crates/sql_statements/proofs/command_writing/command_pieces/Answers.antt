@@ -1,7 +1,7 @@
--- The pieces one behind the other are the text.
+-- The pieces one after the other are the text.
 use Rattle.std.proofs.Common.{◌∙◌}
 use Rattle.std.proofs.lemmas.List.{append-nil}
-use Rattle.sql_statements.specs.Text.{command_text}
+use Rattle.statement_forms.specs.Text.{command_text}
 use Rattle.sql_statements.proofs.command_writing.command_pieces.Goals as goal
 
 pub returns-in-SetUp : goal.returns-in-SetUp

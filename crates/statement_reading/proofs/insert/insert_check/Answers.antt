@@ -3,7 +3,7 @@ use Rattle.std.proofs.lemmas.Grind.{common_steps}
 use Rattle.grammar.specs.Language.{Refused}
 use Rattle.grammar.proofs.Places.{rest_of}
 use Rattle.grammar.proofs.Wholes.{refused_more, refused_broken}
-use Rattle.sql_statements.specs.Insert.{InsertInto}
+use Rattle.statement_forms.specs.Insert.{InsertInto}
 use Rattle.statement_reading.proofs.InsertReads.{head_refused, rest_refused, insert_has}
 use Rattle.statement_reading.proofs.insert.insert_check.Goals as goal
 

@@ -3,7 +3,7 @@ use Rattle.std.proofs.lemmas.Grind.{common_steps}
 use Rattle.grammar.proofs.Leaves.{fixed_apart}
 use Rattle.grammar.proofs.Places.{passed_on}
 use Rattle.grammar.proofs.Rows.{reads_then, reads_stuck}
-use Rattle.sql_statements.specs.Insert.{AnyInsert}
+use Rattle.statement_forms.specs.Insert.{AnyInsert}
 use Rattle.statement_reading.proofs.InsertReads.{begins_named_filled}
 use Rattle.statement_reading.proofs.insert.read_any_insert.Goals as goal
 
@@ -13,4 +13,4 @@ returns-in_err-word c = passed_on _ _ _ _ _ c.in_err-word.was (grind (arith, com
 
 pub returns : goal.returns
 unfolding AnyInsert
-returns c = reads_then _ _ _ _ _ _ _ (fixed_apart _ _) c.read_fixed.ensures c.in_ok-word.was c.read_named.ensures c.behind.ensures
+returns c = reads_then _ _ _ _ _ _ _ (fixed_apart _ _) c.read_fixed.ensures c.in_ok-word.was c.read_named.ensures c.after.ensures

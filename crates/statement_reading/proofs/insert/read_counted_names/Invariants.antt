@@ -1,7 +1,7 @@
 use Rattle.std.proofs.Common.{◌-◌, ◌≤◌, length, take}
 use Rattle.grammar.specs.Language.{Times, Many}
 use Rattle.grammar.proofs.Onward.{Onward}
-use Rattle.sql_statements.specs.Insert.{NextName}
+use Rattle.statement_forms.specs.Insert.{NextName}
 use Rattle.statement_reading.proofs.insert.read_counted_names.Given as goal
 
 abbrev pub invariant-names : goal.invariant-names

@@ -11,4 +11,4 @@ pub returns-in_err-word : goal.returns-in_err-word
 returns-in_err-word c = fixed_row _ _ _ _ (passed_on _ _ _ _ _ c.in_err-word.was (grind (arith, common_steps)) (reads_stuck _ _ _ _ _ (fixed_apart _ _) (begins_fixed _) c.in_err-word.was c.read_fixed.ensures))
 
 pub returns : goal.returns
-returns c = fixed_row _ _ _ _ (reads_then _ _ _ _ _ _ _ (fixed_apart _ _) c.read_fixed.ensures c.in_ok-word.was c.read_this_name.ensures c.behind.ensures)
+returns c = fixed_row _ _ _ _ (reads_then _ _ _ _ _ _ _ (fixed_apart _ _) c.read_fixed.ensures c.in_ok-word.was c.read_this_name.ensures c.after.ensures)

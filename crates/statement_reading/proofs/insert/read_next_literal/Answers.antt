@@ -3,7 +3,7 @@ use Rattle.std.proofs.lemmas.Grind.{common_steps}
 use Rattle.grammar.proofs.Leaves.{fixed_apart}
 use Rattle.grammar.proofs.Places.{passed_on}
 use Rattle.grammar.proofs.Rows.{reads_then, reads_stuck}
-use Rattle.sql_statements.specs.Insert.{NextLiteral}
+use Rattle.statement_forms.specs.Insert.{NextLiteral}
 use Rattle.statement_reading.proofs.InsertReads.{begins_literal}
 use Rattle.statement_reading.proofs.insert.read_next_literal.Goals as goal
 
@@ -13,4 +13,4 @@ returns-in_err-comma c = passed_on _ _ _ _ _ c.in_err-comma.was (grind (arith, c
 
 pub returns : goal.returns
 unfolding NextLiteral
-returns c = reads_then _ _ _ _ _ _ _ (fixed_apart _ _) c.read_fixed.ensures c.in_ok-comma.was c.read_literal.ensures c.behind.ensures
+returns c = reads_then _ _ _ _ _ _ _ (fixed_apart _ _) c.read_fixed.ensures c.in_ok-comma.was c.read_literal.ensures c.after.ensures

@@ -3,7 +3,7 @@ use Rattle.std.proofs.lemmas.Grind.{common_steps}
 use Rattle.grammar.proofs.Leaves.{fixed_apart}
 use Rattle.grammar.proofs.Places.{passed_on}
 use Rattle.grammar.proofs.Rows.{reads_then, reads_stuck}
-use Rattle.sql_statements.specs.Insert.{Row}
+use Rattle.statement_forms.specs.Insert.{Row}
 use Rattle.statement_reading.specs.InsertReading.{RowInside, RowRest}
 use Rattle.statement_reading.proofs.InsertReads.{begins_inside}
 use Rattle.statement_reading.proofs.insert.read_row.Goals as goal
@@ -14,4 +14,4 @@ returns-in_err-begin c = passed_on _ _ _ _ _ c.in_err-begin.was (grind (arith, c
 
 pub returns : goal.returns
 unfolding Row RowInside RowRest
-returns c = reads_then _ _ _ _ _ _ _ (fixed_apart _ _) c.read_fixed.ensures c.in_ok-begin.was c.read_row_inside.ensures c.behind.ensures
+returns c = reads_then _ _ _ _ _ _ _ (fixed_apart _ _) c.read_fixed.ensures c.in_ok-begin.was c.read_row_inside.ensures c.after.ensures

@@ -12,4 +12,4 @@ returns-in_err-first c = passed_on _ _ _ _ _ c.in_err-first.was (grind (arith, c
 
 pub returns : goal.returns
 unfolding RowInside
-returns c = reads_then _ _ _ _ _ _ _ (apart_first c.args.more) c.read_literal.ensures c.in_ok-first.was c.read_row_rest.ensures c.behind.ensures
+returns c = reads_then _ _ _ _ _ _ _ (apart_first c.args.more) c.read_literal.ensures c.in_ok-first.was c.read_row_rest.ensures c.after.ensures

@@ -12,4 +12,4 @@ pub returns-in-Err : goal.returns-in-Err
 returns-in-Err c = rest_broken _ _ _ _ _ (omega arith) c.loop-i.invariant c.in-Err.ensures
 
 pub returns : goal.returns
-returns c = rest_end _ _ _ _ _ _ (omega arith) c.loop-i.invariant c.read_fixed.ensures c.behind.ensures
+returns c = rest_end _ _ _ _ _ _ (omega arith) c.loop-i.invariant c.read_fixed.ensures c.after.ensures

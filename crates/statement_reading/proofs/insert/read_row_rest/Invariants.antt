@@ -1,7 +1,7 @@
 use Rattle.std.proofs.Common.{◌-◌, codes}
 use Rattle.grammar.specs.Language.{Fixed, Then, Times}
 use Rattle.grammar.proofs.Onward.{Onward}
-use Rattle.sql_statements.specs.Insert.{NextLiteral}
+use Rattle.statement_forms.specs.Insert.{NextLiteral}
 use Rattle.statement_reading.specs.InsertReading.{RowRest}
 use Rattle.statement_reading.proofs.insert.read_row_rest.Given as goal
 

@@ -2,7 +2,7 @@ use Rattle.std.proofs.Common.{arith, ◌≡◌, refl, Err}
 use Rattle.std.proofs.lemmas.Grind.{common_steps}
 use Rattle.grammar.proofs.Repeats.{begins_many}
 use Rattle.grammar.proofs.Rows.{reads_then, then_broken}
-use Rattle.sql_statements.specs.Insert.{Rows}
+use Rattle.statement_forms.specs.Insert.{Rows}
 use Rattle.statement_reading.proofs.InsertReads.{rows_join, apart_first_row}
 use Rattle.statement_reading.proofs.insert.read_rows.Goals as goal
 

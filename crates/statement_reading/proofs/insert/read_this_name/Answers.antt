@@ -18,4 +18,4 @@ pub returns-in-Err : goal.returns-in-Err
 returns-in-Err c = name_stuck c.args.name.now c.args.bytes.now c.loop-byte.byte-index 0 _ _ (omega arith) c.loop-byte.invariant c.in-Err.ensures
 
 pub returns : goal.returns
-returns c = name_end c.args.name.now c.args.bytes.now c.loop-byte.byte-index _ _ _ (omega arith) c.loop-byte.invariant c.read_fixed-2.ensures c.behind.ensures
+returns c = name_end c.args.name.now c.args.bytes.now c.loop-byte.byte-index _ _ _ (omega arith) c.loop-byte.invariant c.read_fixed-2.ensures c.after.ensures

@@ -1,6 +1,6 @@
 use Rattle.grammar.specs.Language.{Fixed}
 use Rattle.grammar.proofs.Onward.{Onward}
-use Rattle.sql_literals.specs.Name.{quoted_name}
+use Rattle.sql_cells.specs.Name.{quoted_name}
 use Rattle.statement_reading.proofs.InsertReads.{name_rest}
 use Rattle.statement_reading.proofs.insert.read_this_name.Given as goal
 

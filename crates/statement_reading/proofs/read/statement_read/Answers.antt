@@ -1,6 +1,6 @@
 use Rattle.std.proofs.Common.{arith, ◌≡◌, subst, ◌∙◌}
 use Rattle.grammar.specs.Language.{Refused}
-use Rattle.sql_statements.specs.Statement.{Statements}
+use Rattle.statement_forms.specs.Statement.{Statements}
 use Rattle.statement_reading.proofs.KindList.{nat_max, kind_read, kind_passed, kind_some}
 use Rattle.statement_reading.proofs.Rows.{Passed, passed_all}
 use Rattle.statement_reading.proofs.read.statement_read.Goals as goal

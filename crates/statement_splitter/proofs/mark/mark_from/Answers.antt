@@ -2,13 +2,13 @@ use Rattle.std.proofs.Common.{[], ◌∷◌, ◌++◌, replicate, arith}
 use Rattle.statement_splitter.specs.Scan.{before_mark}
 use Rattle.statement_splitter.specs.State.{dollar_mark}
 use Rattle.statement_splitter.proofs.Searches.{goes_further, goes_to_end}
-use Rattle.statement_splitter.proofs.Firsts.{none_behind, mark_ends, mark_may, mark_not}
+use Rattle.statement_splitter.proofs.Firsts.{none_after, mark_ends, mark_may, mark_not}
 use Rattle.statement_splitter.proofs.mark.mark_from.Goals as goal
 
 pub returns-then-at-bytes : goal.returns-then-at-bytes
 returns-then-at-bytes c =
     let mark = before_mark (dollar_mark c.args.first c.args.dollars c.args.last) in
-    let r = none_behind c.args.first (replicate c.args.dollars 36 ++ c.args.last ∷ []) c.args.bytes.now c.firsts.at c.byte_until-at.result c.byte_until-at.ensures c.if-at-bytes.true in
+    let r = none_after c.args.first (replicate c.args.dollars 36 ++ c.args.last ∷ []) c.args.bytes.now c.firsts.at c.byte_until-at.result c.byte_until-at.ensures c.if-at-bytes.true in
     (goes_further mark mark mark c.args.bytes.now c.args.from c.firsts.at c.byte_until-at.result c.firsts.invariant r.0, r.1)
 
 pub returns-in-Whole : goal.returns-in-Whole

@@ -2,24 +2,24 @@ use Rattle.std.proofs.Common.{◌≡◌, arith, sym, ap, ◌∙◌, Some, inl, i
 use Rattle.statement_splitter.specs.Pieces.{begun, last}
 use Rattle.statement_splitter.specs.State.{unread_at}
 use Rattle.statement_splitter.proofs.Places.{given}
-use Rattle.statement_splitter.proofs.Wholes.{onward_now, gives_now, last_behind, last_same, last_unended, last_waiting, last_none}
+use Rattle.statement_splitter.proofs.Wholes.{onward_now, gives_now, last_after, last_same, last_unended, last_waiting, last_none}
 use Rattle.statement_splitter.proofs.place.begun_from.Goals as goal
 
 pub pieces-smaller : goal.pieces-smaller
 pieces-smaller c =
     let finds = rw c.in-Ended.is at c.find.ensures in
-    let over = given c.args.bytes.now c.find.new.place c.behind_statement-now.result c.in-Ended.size finds.place finds.stands c.behind_statement-now.ensures in
+    let over = given c.args.bytes.now c.find.new.place c.after_statement-now.result c.in-Ended.size finds.place finds.stands c.after_statement-now.ensures in
     omega (arith, finds.low, over.further, over.place.inside)
 
 pub pieces-preserved : goal.pieces-preserved
 pieces-preserved c =
     let finds = rw c.in-Ended.is at c.find.ensures in
-    let over = given c.args.bytes.now c.find.new.place c.behind_statement-now.result c.in-Ended.size finds.place finds.stands c.behind_statement-now.ensures in
+    let over = given c.args.bytes.now c.find.new.place c.after_statement-now.result c.in-Ended.size finds.place finds.stands c.after_statement-now.ensures in
     let old = unread_at c.args.bytes.now c.pieces.now in
     let there = unread_at c.args.bytes.now c.find.new.place in
-    let new = unread_at c.args.bytes.now c.behind_statement-now.result in
+    let new = unread_at c.args.bytes.now c.after_statement-now.result in
     record {
-      same = c.pieces.invariant.same ∙ last_same old there (onward_now old there finds.onward) ∙ last_behind there new _ (gives_now there new _ over.gives);
+      same = c.pieces.invariant.same ∙ last_same old there (onward_now old there finds.onward) ∙ last_after there new _ (gives_now there new _ over.gives);
       place = over.place;
     }
 

@@ -10,9 +10,9 @@ returns-in-Ended c =
     let place = c.args.place.now in
     let size = c.in-Ended.to + length (mark_of c.args.end) in
     let ends = rw (c.in-Ended.is, c.rest_of-rest.ensures) at c.comment_end_from.ensures in
-    over c.args.bytes.now place c.behind.result size (ends_line size (drop place.at c.args.bytes.now)) place.ending
+    over c.args.bytes.now place c.after.result size (ends_line size (drop place.at c.args.bytes.now)) place.ending
     (comment_passed c.args.bytes.now place c.args.from c.in-Ended.to c.args.end c.requires.place c.requires.comment ends)
-    (rw (c.mark_size.ensures, c.rest_of-rest.ensures) at c.behind.ensures)
+    (rw (c.mark_size.ensures, c.rest_of-rest.ensures) at c.after.ensures)
 
 pub returns-in-Open : goal.returns-in-Open
 returns-in-Open c =

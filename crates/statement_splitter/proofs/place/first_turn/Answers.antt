@@ -10,15 +10,15 @@ comment_turn-requires-clause-comment c =
     let opens = sym (rw c.rest_of-rest.ensures at c.opening_of.ensures) ∙ c.in-Comment.is in
     comment_begun (unread_at c.args.bytes.now c.args.place.now) c.in-Comment.size c.in-Comment.field-1 opens (rw c.rest_of-rest.ensures at c.if-size-rest.false)
 
-pub behind-requires-in-DelimiterLine-clause-at : goal.behind-requires-in-DelimiterLine-clause-at
-behind-requires-in-DelimiterLine-clause-at c =
+pub after-requires-in-DelimiterLine-clause-at : goal.after-requires-in-DelimiterLine-clause-at
+after-requires-in-DelimiterLine-clause-at c =
     let place = c.args.place.now in
     let opens = sym (rw c.rest_of-rest.ensures at c.opening_of.ensures) ∙ c.in-DelimiterLine.is in
     let room = line_room (unread_at c.args.bytes.now place) c.in-DelimiterLine.size c.in-DelimiterLine.ending opens in
     omega (arith, room.1, length-drop place.at c.args.bytes.now)
 
-pub behind-requires-in-DelimiterLine-clause-offset : goal.behind-requires-in-DelimiterLine-clause-offset
-behind-requires-in-DelimiterLine-clause-offset c =
+pub after-requires-in-DelimiterLine-clause-offset : goal.after-requires-in-DelimiterLine-clause-offset
+after-requires-in-DelimiterLine-clause-offset c =
     let place = c.args.place.now in
     let opens = sym (rw c.rest_of-rest.ensures at c.opening_of.ensures) ∙ c.in-DelimiterLine.is in
     let room = line_room (unread_at c.args.bytes.now place) c.in-DelimiterLine.size c.in-DelimiterLine.ending opens in
@@ -36,9 +36,9 @@ pub returns-in-White : goal.returns-in-White
 returns-in-White c =
     let place = c.args.place.now in
     let opens = sym (rw c.rest_of-rest.ensures at c.opening_of.ensures) ∙ c.in-White.is in
-    over c.args.bytes.now place c.behind.result 1 (ends_line 1 (drop place.at c.args.bytes.now)) place.ending
+    over c.args.bytes.now place c.after.result 1 (ends_line 1 (drop place.at c.args.bytes.now)) place.ending
     (white_over c.args.bytes.now place c.requires opens)
-    (rw c.rest_of-rest.ensures at c.behind.ensures)
+    (rw c.rest_of-rest.ensures at c.after.ensures)
 
 pub returns-in-Comment : goal.returns-in-Comment
 returns-in-Comment c =
@@ -49,9 +49,9 @@ pub returns-in-DelimiterLine : goal.returns-in-DelimiterLine
 returns-in-DelimiterLine c =
     let place = c.args.place.now in
     let opens = sym (rw c.rest_of-rest.ensures at c.opening_of.ensures) ∙ c.in-DelimiterLine.is in
-    over c.args.bytes.now place c.behind-in-DelimiterLine.result c.in-DelimiterLine.size true c.in-DelimiterLine.ending
+    over c.args.bytes.now place c.after-in-DelimiterLine.result c.in-DelimiterLine.size true c.in-DelimiterLine.ending
     (line_over c.args.bytes.now place c.in-DelimiterLine.size c.in-DelimiterLine.ending c.requires opens)
-    c.behind-in-DelimiterLine.ensures
+    c.after-in-DelimiterLine.ensures
 
 pub returns-in-Undecided : goal.returns-in-Undecided
 returns-in-Undecided c =

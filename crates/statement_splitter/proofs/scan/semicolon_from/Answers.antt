@@ -21,6 +21,6 @@ bytes-preserved c =
     let at = c.plain_until-at.result in
     let inside : at < length c.args.bytes.now = omega (arith, c.plain_until-at.ensures.high) in
     let step = semicolon_step c.bytes.within c.args.bytes.now at inside (sym c.is_end.ensures ∙ c.if-is_end.false) in
-    goes_further (before_semicolon c.args.within) (before_semicolon c.bytes.within) (before_semicolon c.behind_byte-within.result) c.args.bytes.now c.args.from c.bytes.at (at + 1) c.bytes.invariant
-    (goes_further (before_semicolon c.bytes.within) (before_semicolon c.bytes.within) (before_semicolon c.behind_byte-within.result) c.args.bytes.now c.bytes.at at (at + 1) (plain_goes c.bytes.within c.args.bytes.now c.bytes.at at c.plain_until-at.ensures)
-    (subst (λ after. GoesOn (before_semicolon c.bytes.within) (before_semicolon after) c.args.bytes.now at (at + 1)) (sym c.behind_byte-within.ensures) step))
+    goes_further (before_semicolon c.args.within) (before_semicolon c.bytes.within) (before_semicolon c.after_byte-within.result) c.args.bytes.now c.args.from c.bytes.at (at + 1) c.bytes.invariant
+    (goes_further (before_semicolon c.bytes.within) (before_semicolon c.bytes.within) (before_semicolon c.after_byte-within.result) c.args.bytes.now c.bytes.at at (at + 1) (plain_goes c.bytes.within c.args.bytes.now c.bytes.at at c.plain_until-at.ensures)
+    (subst (λ after. GoesOn (before_semicolon c.bytes.within) (before_semicolon after) c.args.bytes.now at (at + 1)) (sym c.after_byte-within.ensures) step))

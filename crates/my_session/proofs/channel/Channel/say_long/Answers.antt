@@ -1,5 +1,5 @@
 use Rattle.std.proofs.Common.{◌≡◌, List, ℕ, [], ◌++◌, ◌∙◌, ap}
-use Rattle.my_packets.specs.Packet.{packets}
+use Rattle.wire_forms.specs.Packet.{packets}
 use Rattle.my_session.proofs.Sending.{is_whole, makes_none, said}
 use Rattle.my_session.proofs.channel.Channel.say_long.Goals as goal
 

@@ -1,5 +1,5 @@
 use Rattle.grammar.proofs.Choices.{reads_optional}
-use Rattle.sql_literals.specs.Number.{Fraction}
+use Rattle.sql_cells.specs.Number.{Fraction}
 use Rattle.sql_literals.proofs.reading.number.read_fraction.Goals as goal
 
 pub returns : goal.returns

@@ -3,7 +3,7 @@ use Rattle.std.proofs.lemmas.Grind.{common_steps}
 use Rattle.grammar.proofs.Places.{passed_on}
 use Rattle.grammar.proofs.Rows.{reads_then, reads_stuck}
 use Rattle.sql_literals.proofs.NumberReads.{apart_whole, begins_fraction}
-use Rattle.sql_literals.specs.Number.{Number}
+use Rattle.sql_cells.specs.Number.{Number}
 use Rattle.sql_literals.proofs.reading.number.read_number.Goals as goal
 
 pub returns-in_err-whole : goal.returns-in_err-whole
@@ -12,4 +12,4 @@ returns-in_err-whole c = passed_on _ _ _ _ _ c.in_err-whole.was (grind (arith, c
 
 pub returns : goal.returns
 unfolding Number
-returns c = reads_then _ _ _ _ _ _ _ apart_whole c.read_whole.ensures c.in_ok-whole.was c.read_fraction.ensures c.behind.ensures
+returns c = reads_then _ _ _ _ _ _ _ apart_whole c.read_whole.ensures c.in_ok-whole.was c.read_fraction.ensures c.after.ensures

@@ -2,7 +2,7 @@ use Rattle.std.proofs.Common.{◌≡◌, Err, arith}
 use Rattle.std.proofs.lemmas.Grind.{common_steps}
 use Rattle.grammar.proofs.Places.{rest_of}
 use Rattle.grammar.proofs.Skips.{longest_row}
-use Rattle.sql_literals.specs.Number.{Number}
+use Rattle.sql_cells.specs.Number.{Number}
 use Rattle.sql_literals.proofs.NumberReads.{apart_whole, number_broken}
 use Rattle.sql_literals.proofs.reading.skip.skip_number.Goals as goal
 

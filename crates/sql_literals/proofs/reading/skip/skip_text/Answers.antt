@@ -2,7 +2,7 @@ use Rattle.std.proofs.Common.{◌≡◌, Err, arith}
 use Rattle.std.proofs.lemmas.Grind.{common_steps}
 use Rattle.grammar.proofs.Places.{rest_of}
 use Rattle.grammar.proofs.Skips.{longest_row}
-use Rattle.sql_literals.specs.Spelling.{Text}
+use Rattle.sql_cells.specs.Spelling.{Text}
 use Rattle.sql_literals.proofs.TextReads.{apart_quoted, text_broken}
 use Rattle.sql_literals.proofs.reading.skip.skip_text.Goals as goal
 

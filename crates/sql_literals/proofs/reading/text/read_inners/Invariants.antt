@@ -1,7 +1,7 @@
 use Rattle.std.proofs.Common.{◌-◌, length}
 use Rattle.grammar.specs.Language.{Many}
 use Rattle.grammar.proofs.Onward.{Onward}
-use Rattle.sql_literals.specs.Spelling.{Inner}
+use Rattle.sql_cells.specs.Spelling.{Inner}
 use Rattle.sql_literals.proofs.reading.text.read_inners.Given as goal
 
 abbrev pub invariant-runs : goal.invariant-runs

@@ -4,7 +4,7 @@ use Rattle.grammar.proofs.Places.{passed_on}
 use Rattle.grammar.proofs.Rows.{reads_then, reads_stuck}
 use Rattle.grammar.proofs.Empty.{begins_fixed}
 use Rattle.sql_literals.proofs.TextReads.{apart_close}
-use Rattle.sql_literals.specs.Spelling.{Quoted}
+use Rattle.sql_cells.specs.Spelling.{Quoted}
 use Rattle.sql_literals.proofs.reading.text.read_quoted.Goals as goal
 
 pub returns-in_err-opened : goal.returns-in_err-opened
@@ -13,4 +13,4 @@ returns-in_err-opened c = passed_on _ _ _ _ _ c.in_err-opened.was (grind (arith,
 
 pub returns : goal.returns
 unfolding Quoted
-returns c = reads_then _ _ _ _ _ _ _ apart_close c.read_opened.ensures c.in_ok-opened.was c.read_fixed.ensures c.behind.ensures
+returns c = reads_then _ _ _ _ _ _ _ apart_close c.read_opened.ensures c.in_ok-opened.was c.read_fixed.ensures c.after.ensures

@@ -4,7 +4,7 @@ use Rattle.grammar.proofs.Places.{passed_on}
 use Rattle.grammar.proofs.Rows.{reads_then, reads_stuck}
 use Rattle.grammar.proofs.Repeats.{begins_many}
 use Rattle.sql_literals.proofs.TextReads.{apart_quoted}
-use Rattle.sql_literals.specs.Spelling.{Text}
+use Rattle.sql_cells.specs.Spelling.{Text}
 use Rattle.sql_literals.proofs.reading.text.read_text.Goals as goal
 
 pub returns-in_err-first : goal.returns-in_err-first
@@ -13,4 +13,4 @@ returns-in_err-first c = passed_on _ _ _ _ _ c.in_err-first.was (grind (arith, c
 
 pub returns : goal.returns
 unfolding Text
-returns c = reads_then _ _ _ _ _ _ _ apart_quoted c.read_quoted.ensures c.in_ok-first.was c.read_more.ensures c.behind.ensures
+returns c = reads_then _ _ _ _ _ _ _ apart_quoted c.read_quoted.ensures c.in_ok-first.was c.read_more.ensures c.after.ensures

@@ -1,6 +1,6 @@
 use Rattle.std.proofs.Common.{◌≡◌, ◌∷◌, [], arith, sym, ◌∙◌, subst, Err}
 use Rattle.std.proofs.lemmas.Grind.{common_steps}
-use Rattle.sql_statements.specs.Insert.{QuotedName}
+use Rattle.statement_forms.specs.Insert.{QuotedName}
 use Rattle.statement_reading.specs.declared.fault.StatementFault.TheVariants.{OutOfMemory}
 use Rattle.statement_reading.proofs.Forms.{form_only, form_some, form_refused, form_entries, part_is}
 use Rattle.statement_reading.proofs.FormTexts.{path_slots, path_form_is}

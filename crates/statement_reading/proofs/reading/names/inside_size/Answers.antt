@@ -1,7 +1,7 @@
 use Rattle.std.proofs.Common.{arith, ◌≡◌, false, get_or}
 use Rattle.std.proofs.lemmas.Grind.{common_steps}
 use Rattle.grammar.proofs.Leaves.{run_whole}
-use Rattle.sql_statements.specs.Insert.{is_inside}
+use Rattle.statement_forms.specs.Insert.{is_inside}
 use Rattle.statement_reading.proofs.reading.names.inside_size.Goals as goal
 
 pub returns-then-byte-eq96 : goal.returns-then-byte-eq96

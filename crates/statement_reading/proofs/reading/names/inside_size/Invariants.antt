@@ -1,5 +1,5 @@
 use Rattle.std.proofs.Common.{◌≡◌, ◌<◌, ℕ, true, get_or}
-use Rattle.sql_statements.specs.Insert.{is_inside}
+use Rattle.statement_forms.specs.Insert.{is_inside}
 use Rattle.statement_reading.proofs.reading.names.inside_size.Given as goal
 
 abbrev pub invariant-loop-i : goal.invariant-loop-i

@@ -3,7 +3,7 @@ use Rattle.std.proofs.lemmas.Grind.{common_steps}
 use Rattle.grammar.proofs.Places.{passed_on}
 use Rattle.grammar.proofs.Repeats.{begins_many}
 use Rattle.grammar.proofs.Rows.{reads_then, reads_stuck}
-use Rattle.sql_statements.specs.Insert.{QuotedName}
+use Rattle.statement_forms.specs.Insert.{QuotedName}
 use Rattle.statement_reading.proofs.NameReads.{apart_part}
 use Rattle.statement_reading.proofs.reading.names.read_name.Goals as goal
 
@@ -13,4 +13,4 @@ returns-in_err-first c = passed_on _ _ _ _ _ c.in_err-first.was (grind (arith, c
 
 pub returns : goal.returns
 unfolding QuotedName
-returns c = reads_then _ _ _ _ _ _ _ apart_part c.read_name_part.ensures c.in_ok-first.was c.read_name_parts.ensures c.behind.ensures
+returns c = reads_then _ _ _ _ _ _ _ apart_part c.read_name_part.ensures c.in_ok-first.was c.read_name_parts.ensures c.after.ensures

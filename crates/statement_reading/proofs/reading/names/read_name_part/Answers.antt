@@ -3,7 +3,7 @@ use Rattle.std.proofs.lemmas.Grind.{common_steps}
 use Rattle.grammar.proofs.Empty.{begins_fixed}
 use Rattle.grammar.proofs.Places.{passed_on}
 use Rattle.grammar.proofs.Rows.{reads_then, reads_stuck}
-use Rattle.sql_statements.specs.Insert.{NamePart}
+use Rattle.statement_forms.specs.Insert.{NamePart}
 use Rattle.statement_reading.proofs.NameReads.{apart_close}
 use Rattle.statement_reading.proofs.reading.names.read_name_part.Goals as goal
 
@@ -13,4 +13,4 @@ returns-in_err-opened c = passed_on _ _ _ _ _ c.in_err-opened.was (grind (arith,
 
 pub returns : goal.returns
 unfolding NamePart
-returns c = reads_then _ _ _ _ _ _ _ apart_close c.read_opened_name.ensures c.in_ok-opened.was c.read_fixed.ensures c.behind.ensures
+returns c = reads_then _ _ _ _ _ _ _ apart_close c.read_opened_name.ensures c.in_ok-opened.was c.read_fixed.ensures c.after.ensures

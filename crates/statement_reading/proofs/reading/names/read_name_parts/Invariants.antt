@@ -1,7 +1,7 @@
 use Rattle.std.proofs.Common.{◌-◌, length}
 use Rattle.grammar.specs.Language.{Many}
 use Rattle.grammar.proofs.Onward.{Onward}
-use Rattle.sql_statements.specs.Insert.{NamePart}
+use Rattle.statement_forms.specs.Insert.{NamePart}
 use Rattle.statement_reading.proofs.reading.names.read_name_parts.Given as goal
 
 abbrev pub invariant-parts : goal.invariant-parts

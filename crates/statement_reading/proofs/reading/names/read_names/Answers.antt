@@ -13,4 +13,4 @@ returns-in_err-first c = passed_on _ _ _ _ _ c.in_err-first.was (grind (arith, c
 
 pub returns : goal.returns
 unfolding Names
-returns c = reads_then _ _ _ _ _ _ _ apart_first_name c.read_name.ensures c.in_ok-first.was c.read_next_names.ensures c.behind.ensures
+returns c = reads_then _ _ _ _ _ _ _ apart_first_name c.read_name.ensures c.in_ok-first.was c.read_next_names.ensures c.after.ensures

@@ -3,7 +3,7 @@ use Rattle.std.proofs.lemmas.Grind.{common_steps}
 use Rattle.grammar.proofs.Leaves.{fixed_apart}
 use Rattle.grammar.proofs.Places.{passed_on}
 use Rattle.grammar.proofs.Rows.{reads_then, reads_stuck}
-use Rattle.sql_statements.specs.Insert.{NextName}
+use Rattle.statement_forms.specs.Insert.{NextName}
 use Rattle.statement_reading.proofs.NameReads.{begins_name}
 use Rattle.statement_reading.proofs.reading.names.read_next_name.Goals as goal
 
@@ -13,4 +13,4 @@ returns-in_err-comma c = passed_on _ _ _ _ _ c.in_err-comma.was (grind (arith, c
 
 pub returns : goal.returns
 unfolding NextName
-returns c = reads_then _ _ _ _ _ _ _ (fixed_apart _ _) c.read_fixed.ensures c.in_ok-comma.was c.read_name.ensures c.behind.ensures
+returns c = reads_then _ _ _ _ _ _ _ (fixed_apart _ _) c.read_fixed.ensures c.in_ok-comma.was c.read_name.ensures c.after.ensures

@@ -4,7 +4,7 @@ use Rattle.grammar.proofs.Leaves.{fixed_apart}
 use Rattle.grammar.proofs.Places.{passed_on}
 use Rattle.grammar.proofs.Repeats.{begins_many}
 use Rattle.grammar.proofs.Rows.{reads_then, reads_stuck}
-use Rattle.sql_statements.specs.Insert.{OpenedName}
+use Rattle.statement_forms.specs.Insert.{OpenedName}
 use Rattle.statement_reading.proofs.reading.names.read_opened_name.Goals as goal
 
 pub returns-in_err-open : goal.returns-in_err-open
@@ -13,4 +13,4 @@ returns-in_err-open c = passed_on _ _ _ _ _ c.in_err-open.was (grind (arith, com
 
 pub returns : goal.returns
 unfolding OpenedName
-returns c = reads_then _ _ _ _ _ _ _ (fixed_apart _ _) c.read_fixed.ensures c.in_ok-open.was c.inside_size.ensures c.behind.ensures
+returns c = reads_then _ _ _ _ _ _ _ (fixed_apart _ _) c.read_fixed.ensures c.in_ok-open.was c.inside_size.ensures c.after.ensures

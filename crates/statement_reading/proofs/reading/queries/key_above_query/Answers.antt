@@ -2,7 +2,7 @@ use Rattle.std.proofs.Common.{◌≡◌, ◌∷◌, ◌^◌, [], to_z, of_z, ari
 use Rattle.std.proofs.lemmas.Grind.{common_steps}
 use Rattle.std.proofs.lemmas.Int.{to_z-of_z}
 use Rattle.std.specs.Int.{w128}
-use Rattle.sql_statements.specs.Insert.{QuotedName}
+use Rattle.statement_forms.specs.Insert.{QuotedName}
 use Rattle.statement_reading.specs.Parts.{Within, BoundText}
 use Rattle.statement_reading.specs.declared.fault.StatementFault.TheVariants.{OutOfMemory}
 use Rattle.statement_reading.proofs.Forms.{form_only, form_some, form_refused, form_entries, part_is}

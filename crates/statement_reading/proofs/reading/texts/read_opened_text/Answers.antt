@@ -13,4 +13,4 @@ returns-in_err-open c = passed_on _ _ _ _ _ c.in_err-open.was (grind (arith, com
 
 pub returns : goal.returns
 unfolding OpenedText
-returns c = reads_then _ _ _ _ _ _ _ (fixed_apart _ _) c.read_fixed.ensures c.in_ok-open.was c.read_written_bytes.ensures c.behind.ensures
+returns c = reads_then _ _ _ _ _ _ _ (fixed_apart _ _) c.read_fixed.ensures c.in_ok-open.was c.read_written_bytes.ensures c.after.ensures

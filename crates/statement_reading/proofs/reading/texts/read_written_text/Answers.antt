@@ -13,4 +13,4 @@ returns-in_err-opened c = passed_on _ _ _ _ _ c.in_err-opened.was (grind (arith,
 
 pub returns : goal.returns
 unfolding WrittenText
-returns c = reads_then _ _ _ _ _ _ _ apart_close c.read_opened_text.ensures c.in_ok-opened.was c.read_fixed.ensures c.behind.ensures
+returns c = reads_then _ _ _ _ _ _ _ apart_close c.read_opened_text.ensures c.in_ok-opened.was c.read_fixed.ensures c.after.ensures

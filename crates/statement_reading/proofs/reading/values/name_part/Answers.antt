@@ -1,6 +1,6 @@
 use Rattle.std.proofs.Common.{◌≡◌, ◌-◌, false, length, take, drop, ap, sym, ◌∙◌, subst}
 use Rattle.std.specs.List.{flat_map}
-use Rattle.sql_literals.specs.Name.{name_byte, quoted_name}
+use Rattle.sql_cells.specs.Name.{name_byte, quoted_name}
 use Rattle.statement_reading.specs.Readings.{has_byte, IsDoubled}
 use Rattle.statement_reading.proofs.NameValues.{name_size, name_doubled, name_made, name_inside}
 use Rattle.statement_reading.proofs.reading.values.name_part.Goals as goal

@@ -1,6 +1,6 @@
 use Rattle.std.proofs.Common.{◌≡◌, ◌≤◌, ◌-◌, length, take, drop}
 use Rattle.std.specs.List.{flat_map}
-use Rattle.sql_literals.specs.Name.{name_byte}
+use Rattle.sql_cells.specs.Name.{name_byte}
 use Rattle.statement_reading.specs.Readings.{IsDoubled}
 use Rattle.statement_reading.proofs.reading.values.undouble.Given as goal
 

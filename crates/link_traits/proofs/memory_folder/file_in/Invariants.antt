@@ -1,6 +1,0 @@
-use Rattle.std.proofs.Common.{◌≡◌, drop}
-use Rattle.link_traits.specs.Memory.{bytes_of}
-use Rattle.link_traits.proofs.memory_folder.file_in.Given as goal
-
-abbrev pub invariant-files : goal.invariant-files
-invariant-files l = bytes_of l.files l.name ≡ bytes_of (drop l.file-index l.files) l.name

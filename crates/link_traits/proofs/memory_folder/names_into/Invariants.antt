@@ -1,6 +1,0 @@
-use Rattle.std.proofs.Common.{◌≡◌, ◌++◌, take}
-use Rattle.link_traits.specs.Contents.{names}
-use Rattle.link_traits.proofs.memory_folder.names_into.Given as goal
-
-abbrev pub invariant-files : goal.invariant-files
-invariant-files l = l.found ≡ l.fn.found ++ names (take l.file-index l.files)

@@ -1,6 +1,0 @@
-use Rattle.std.proofs.Common.{◌≡◌, drop}
-use Rattle.link_traits.specs.Replies.{messages_of}
-use Rattle.link_traits.proofs.reply_site.ReplySite.messages.Given as goal
-
-abbrev pub invariant-links : goal.invariant-links
-invariant-links l = messages_of l.self.returned l.number ≡ messages_of (drop l.link-index l.self.returned) l.number

@@ -1,0 +1,138 @@
+-- Files that stand in parts.
+use Rattle.std.proofs.Common.{◌≡◌, ℕ, zero, suc, ◌+◌, ◌<◌, Bool, true, false, ◌||◌, cond, List, [], ◌∷◌, ◌++◌, length, get_or, set, Some, None, is_some, refl, sym, ap, ◌∙◌, subst, arith, append_assoc, append-nil, take, drop}
+use Rattle.std.specs.List.{list_any, position, position_from, flat_map}
+use Rattle.std.proofs.lemmas.Bool.{false≢true}
+use Rattle.std.proofs.lemmas.Iterator.Adapters.{position_from-zero}
+use Rattle.std.proofs.lemmas.List.Quantifiers.{position-Some}
+use Rattle.std.proofs.lemmas.Grind.{common_steps}
+use Rattle.std.proofs.lemmas.List.{map-append, take_more, at_drop_more}
+use Rattle.std.proofs.lemmas.List.Concat.{flat_map-append}
+use Rattle.link_traits.specs.Contents.{File, names}
+use Rattle.memory_outside.specs.Memory.{is_named, with_file, bytes_of}
+
+-- whether one of the files has this name
+abbrev pub has_name : List ℕ → List File → Bool
+has_name name files = list_any (is_named name) files
+
+-- there is a place where the test passes exactly where it passes at all
+is_some-position_from : {X : Type 0} (p : X → Bool) (i : ℕ) (xs : List X) → is_some (position_from p i xs) ≡ list_any p xs
+is_some-position_from p i [] = refl
+is_some-position_from p i (x ∷ xs) =
+    elim (p x) as (λ b. is_some (cond b (Some i) (position_from p (i + 1) xs)) ≡ (b || list_any p xs)) [
+      | true ↦ refl
+      | false ↦ is_some-position_from p (i + 1) xs
+    ]
+
+pub is_some-position : {X : Type 0} (p : X → Bool) (xs : List X) → is_some (position p xs) ≡ list_any p xs
+is_some-position p xs = ap is_some (position_from-zero p xs) ∙ is_some-position_from p 0 xs
+
+-- a test that passes at no place passes nowhere
+pub position-None : {X : Type 0} (p : X → Bool) (xs : List X) → position p xs ≡ None → list_any p xs ≡ false
+position-None p xs h = sym (is_some-position p xs) ∙ ap is_some h
+
+-- a write at the first file of the name puts the file there
+pub set-with_file : (xs : List File) (file : File) (i : ℕ) (d : File) → i < length xs → is_named file.name (get_or xs i d) ≡ true → ((k : ℕ) → k < i → is_named file.name (get_or xs k d) ≡ false) → set xs i file ≡ with_file xs file
+set-with_file [] file i d h here before = absurd (omega arith)
+set-with_file (x ∷ xs) file zero d h here before = rw here refl
+set-with_file (x ∷ xs) file (suc i) d h here before =
+    let first : is_named file.name x ≡ false = before 0 (omega arith) in
+    rw first (ap (λ (l : List File). x ∷ l) (set-with_file xs file i d (omega arith) here (λ k l. before (suc k) (omega arith))))
+
+pub position-with_file : (xs : List File) (file : File) (i : ℕ) → position (is_named file.name) xs ≡ Some i → set xs i file ≡ with_file xs file
+position-with_file xs file i h =
+    let at = position-Some (is_named file.name) xs i file h in set-with_file xs file i file at.0 at.1 at.2
+
+-- a file whose name stands in the front is put there
+pub with_file-front : (xs ys : List File) (file : File) → has_name file.name xs ≡ true → with_file (xs ++ ys) file ≡ with_file xs file ++ ys
+with_file-front [] ys file h = absurd (false≢true h)
+with_file-front (x ∷ xs) ys file h =
+    elim (is_named file.name x) as (λ b. (b || has_name file.name xs) ≡ true → cond b (file ∷ (xs ++ ys)) (x ∷ with_file (xs ++ ys) file) ≡ cond b (file ∷ xs) (x ∷ with_file xs file) ++ ys) [
+      | true ↦ λ _. refl
+      | false ↦ λ e. ap (λ (l : List File). x ∷ l) (with_file-front xs ys file e)
+    ] h
+
+-- a file whose name doesn't stand in the front is put after it
+pub with_file-back : (xs ys : List File) (file : File) → has_name file.name xs ≡ false → with_file (xs ++ ys) file ≡ xs ++ with_file ys file
+with_file-back [] ys file h = refl
+with_file-back (x ∷ xs) ys file h =
+    elim (is_named file.name x) as (λ b. (b || has_name file.name xs) ≡ false → cond b (file ∷ (xs ++ ys)) (x ∷ with_file (xs ++ ys) file) ≡ x ∷ (xs ++ with_file ys file)) [
+      | true ↦ λ e. absurd (false≢true (sym e))
+      | false ↦ λ e. ap (λ (l : List File). x ∷ l) (with_file-back xs ys file e)
+    ] h
+
+-- a file is put among all where it is put into the first part that has its name
+pub with_file-part : {X : Type 0} (f : X → List File) (parts : List X) (file : File) (i : ℕ) (d new : X) → i < length parts → f new ≡ with_file (f (get_or parts i d)) file → has_name file.name (f (get_or parts i d)) ≡ true → ((k : ℕ) → k < i → has_name file.name (f (get_or parts k d)) ≡ false) → flat_map f (set parts i new) ≡ with_file (flat_map f parts) file
+with_file-part f [] file i d new h put here before = absurd (omega arith)
+with_file-part f (part ∷ parts) file zero d new h put here before =
+    ap (λ (l : List File). l ++ flat_map f parts) put ∙ sym (with_file-front (f part) (flat_map f parts) file here)
+with_file-part f (part ∷ parts) file (suc i) d new h put here before =
+    let first : has_name file.name (f part) ≡ false = before 0 (omega arith) in
+    ap (λ (l : List File). f part ++ l) (with_file-part f parts file i d new (omega arith) put here (λ k l. before (suc k) (omega arith))) ∙ sym (with_file-back (f part) (flat_map f parts) file first)
+
+-- a file whose name stands in no part is put after all
+pub with_file-new : {X : Type 0} (f : X → List File) (parts : List X) (file : File) → list_any (λ part. has_name file.name (f part)) parts ≡ false → with_file (flat_map f parts) file ≡ flat_map f parts ++ file ∷ []
+with_file-new f [] file h = refl
+with_file-new f (part ∷ parts) file h =
+    elim (has_name file.name (f part)) as (λ b. has_name file.name (f part) ≡ b → (b || list_any (λ p. has_name file.name (f p)) parts) ≡ false → with_file (f part ++ flat_map f parts) file ≡ (f part ++ flat_map f parts) ++ file ∷ []) [
+      | true ↦ λ _ e. absurd (false≢true (sym e))
+      | false ↦ λ first e. with_file-back (f part) (flat_map f parts) file first ∙ (ap (λ (l : List File). f part ++ l) (with_file-new f parts file e) ∙ sym (append_assoc (f part) (flat_map f parts) (file ∷ [])))
+    ] refl h
+
+-- the bytes of a name that stands in the front
+pub bytes_of-front : (xs ys : List File) (name bytes : List ℕ) → bytes_of xs name ≡ Some bytes → bytes_of (xs ++ ys) name ≡ Some bytes
+bytes_of-front [] ys name bytes h = cc
+bytes_of-front (x ∷ xs) ys name bytes h =
+    elim (is_named name x) as (λ b. cond b (Some x.bytes) (bytes_of xs name) ≡ Some bytes → cond b (Some x.bytes) (bytes_of (xs ++ ys) name) ≡ Some bytes) [
+      | true ↦ λ e. e
+      | false ↦ λ e. bytes_of-front xs ys name bytes e
+    ] h
+
+-- the bytes of a name that doesn't stand in the front
+pub bytes_of-back : (xs ys : List File) (name : List ℕ) → bytes_of xs name ≡ None → bytes_of (xs ++ ys) name ≡ bytes_of ys name
+bytes_of-back [] ys name h = refl
+bytes_of-back (x ∷ xs) ys name h =
+    elim (is_named name x) as (λ b. cond b (Some x.bytes) (bytes_of xs name) ≡ None → cond b (Some x.bytes) (bytes_of (xs ++ ys) name) ≡ bytes_of ys name) [
+      | true ↦ λ e. (cc)
+      | false ↦ λ e. bytes_of-back xs ys name e
+    ] h
+
+-- the first part that has a name has it
+pub position-has_name : {X : Type 0} (f : X → List File) (parts : List X) (name : List ℕ) (i : ℕ) (part : X) → position (λ p. has_name name (f p)) parts ≡ Some i → part ≡ get_or parts i part → has_name name (f part) ≡ true
+position-has_name {X} f parts name i part h here =
+    let HasName : X → Type 0 = λ p. has_name name (f p) ≡ true in
+    let at = position-Some (λ p. has_name name (f p)) parts i part h in subst HasName (sym here) at.1
+
+-- a file is put among all where it is put into the first part that has its name
+pub position-with_file-part : {X : Type 0} (f : X → List File) (parts : List X) (file : File) (i : ℕ) (old new : X) → position (λ p. has_name file.name (f p)) parts ≡ Some i → old ≡ get_or parts i old → f new ≡ with_file (f old) file → flat_map f (set parts i new) ≡ with_file (flat_map f parts) file
+position-with_file-part {X} f parts file i old new h here put =
+    let Put : X → Type 0 = λ p. f new ≡ with_file (f p) file in
+    let at = position-Some (λ p. has_name file.name (f p)) parts i old h in with_file-part f parts file i old new at.0 (subst Put here put) at.1 at.2
+
+-- a file whose name stands in no part is put after all
+pub position-with_file-new : {X : Type 0} (f : X → List File) (parts : List X) (file : File) (last : X) → position (λ p. has_name file.name (f p)) parts ≡ None → f last ≡ file ∷ [] → flat_map f (parts ++ last ∷ []) ≡ with_file (flat_map f parts) file
+position-with_file-new f parts file last h one =
+    let none = position-None (λ p. has_name file.name (f p)) parts h in
+    flat_map-append f parts (last ∷ []) ∙ (ap (λ (l : List File). flat_map f parts ++ (l ++ [])) one ∙ sym (with_file-new f parts file none))
+
+-- the bytes of a name that stands in the next part
+pub bytes_of-found : {X : Type 0} (f : X → List File) (parts : List X) (i : ℕ) (part : X) (name bytes : List ℕ) → i < length parts → part ≡ get_or parts i part → bytes_of (f part) name ≡ Some bytes → bytes_of (flat_map f (drop i parts)) name ≡ Some bytes
+bytes_of-found {X} f parts i part name bytes h here found =
+    let Found : X → Type 0 = λ p. bytes_of (f p ++ flat_map f (drop (i + 1) parts)) name ≡ Some bytes in
+    at_drop_more (λ (ps : List X). bytes_of (flat_map f ps) name) parts i part h ∙ subst Found here (bytes_of-front (f part) (flat_map f (drop (i + 1) parts)) name bytes found)
+
+-- the bytes of a name that doesn't stand in the next part
+pub bytes_of-passed : {X : Type 0} (f : X → List File) (parts : List X) (i : ℕ) (part : X) (name : List ℕ) → i < length parts → part ≡ get_or parts i part → bytes_of (f part) name ≡ None → bytes_of (flat_map f (drop i parts)) name ≡ bytes_of (flat_map f (drop (i + 1) parts)) name
+bytes_of-passed {X} f parts i part name h here none =
+    let Passed : X → Type 0 = λ p. bytes_of (f p ++ flat_map f (drop (i + 1) parts)) name ≡ bytes_of (flat_map f (drop (i + 1) parts)) name in
+    at_drop_more (λ (ps : List X). bytes_of (flat_map f ps) name) parts i part h ∙ subst Passed here (bytes_of-back (f part) (flat_map f (drop (i + 1) parts)) name none)
+
+-- the names of the next part, after those of the parts before it
+pub names-more : {X : Type 0} (f : X → List File) (parts : List X) (i : ℕ) (part : X) → i < length parts → part ≡ get_or parts i part → names (flat_map f (take i parts)) ++ names (f part) ≡ names (flat_map f (take (i + 1) parts))
+names-more {X} f parts i part h here =
+    let More : X → Type 0 = λ p. names (flat_map f (take i parts)) ++ names (f p) ≡ names (flat_map f (take (i + 1) parts)) in
+    let name : File → List ℕ = λ file. file.name in
+    subst More (sym here) (sym (ap (λ (l : List X). names (flat_map f l)) (take_more parts i part h) ∙ (ap names (flat_map-append f (take i parts) (get_or parts i part ∷ [])) ∙ (map-append name (flat_map f (take i parts)) (f (get_or parts i part) ++ []) ∙ ap (λ (l : List File). names (flat_map f (take i parts)) ++ names l) (append-nil (f (get_or parts i part)))))))
+
+-- a list that was written over from its front to its end is what was written
+pub written_over-whole : {X : Type 0} (old new : List X) → length new ≡ length old → take (length old) (new ++ drop (length new) old) ≡ new
+written_over-whole old new h = grind (arith, common_steps)

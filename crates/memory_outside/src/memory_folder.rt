@@ -1,0 +1,277 @@
+// A folder in memory.
+ghost use Rattle.std.specs.Prelude.{◌≡◌, ◌≤◌, ◌<◌, ◌+◌, ◌-◌, ◌++◌, [], Some, None, true, false, is_ok, if◌then◌else◌, map, position, IsPermutation, IsSorted, vec_len, vec_capacity, IfOk, OnOk, OnErr, MatchOption};
+ghost use Rattle.std.specs.Cmp.Lexicographic.{slice_cmp};
+ghost use Rattle.std.specs.Ordering.{nat_cmp};
+ghost use Rattle.std.specs.List.{list_any, flat_map};
+ghost use Rattle.link_traits.specs.Contents.{File, names, IsListing};
+ghost use Rattle.memory_outside.specs.Memory.{FolderState, ShelfState, is_named, with_file, bytes_of};
+ghost use Rattle.memory_outside.specs.Script.{script_of, Counts, at_most_count, faults_of, number_of, is_listed, after_call, sum_of_counts, Counted};
+
+use crate::memory_shelf::{MemoryFile, MemoryShelf};
+use crate::script::Script;
+use link_traits::{Folder, FolderFailed, ListFault};
+use plain_data::{Name, NameList, NumberList, OutOfMemory};
+use std::alloc::Global;
+use std::marker::Model;
+
+/// A folder in memory, which tells its files.
+#[derive(Drop)]
+pub struct MemoryFolder {
+    alloc: Global,
+    // The files in parts: those that were put, and those of each shelf that came back.
+    parts: Vec<Vec<MemoryFile>>,
+    path: Option<Name>,
+    out: usize,
+    // How many shelves there were.
+    shelves: u64,
+    script: Script,
+}
+
+impl Model for MemoryFolder {
+    ghost use Rattle.std.specs.Prelude.{◌≤◌, ◌+◌, vec_len, vec_capacity};
+    ghost use Rattle.std.specs.List.{flat_map};
+    ghost use Rattle.memory_outside.specs.Memory.{FolderState};
+
+    ghost Value = { FolderState };
+
+    ghost view = { λ f. record { contents = flat_map (λ part. part.items) f.parts.items; path = f.path; out = f.out; shelves = f.shelves; script = f.script } };
+
+    ghost invariant = { λ f. vec_len f.parts + f.out ≤ vec_capacity f.parts };
+}
+
+impl MemoryFolder {
+    /// An empty folder. `faults` numbers the calls that are to fail as `object * 1000000 + call`, with
+    /// calls from 0: object 0 is the folder, whose calls are `list` and `shelf`, and object i its i-th
+    /// shelf, from 1, whose calls are `create`, `append` and `finish`. Want of memory fails a call
+    /// too. Both are counted, and the count stops at 2^64 - 1. Takes no memory.
+    pub fn new(alloc: Global, faults: NumberList) -> MemoryFolder
+        ensures { result ≡ record { contents = []; path = None; out = 0; shelves = 0; script = script_of faults 0 } }
+    {
+        MemoryFolder {
+            alloc,
+            parts: Vec::new(alloc),
+            path: None,
+            out: 0,
+            shelves: 0,
+            script: Script::new(faults),
+        }
+    }
+
+    /// Puts a file, in the place of the one of its name if there is one, and else at the end. Its
+    /// condition is that no shelf is out. A refusal, for want of memory, changes nothing.
+    pub fn put(&mut self, name: &str, bytes: &[u8]) -> Result<(), OutOfMemory>
+        requires { self.old.out ≡ 0 }
+        ensures ok { OnOk result (self.new ≡ record self.old { contents = with_file self.old.contents (record { name = name.now; bytes = bytes.now }) }) }
+        ensures err { OnErr result (self.new ≡ self.old) }
+    {
+        let file = MemoryFile::of(self.alloc, name, bytes)?;
+        if let Some(part) = part_of(self.parts.as_slice(), name) {
+            put_among(&mut self.parts, part, file);
+            return Ok(());
+        }
+        put_after(self.alloc, &mut self.parts, file)
+    }
+
+    /// The bytes of the file of this name, if there is one. Takes no memory.
+    pub fn file(&self, name: &str) -> Option<&[u8]>
+        ensures { MatchOption result (bytes_of self.now.contents name.now ≡ None) (λ bytes. bytes_of self.now.contents name.now ≡ Some bytes.now) }
+    {
+        'parts: for part in self.parts.as_slice() {
+            if let Some(bytes) = file_in(part.as_slice(), name) {
+                return Some(bytes);
+            }
+        }
+        None
+    }
+
+    // The names of all files, in order.
+    fn names(&self) -> Result<NameList, OutOfMemory>
+        ensures { IfOk result (λ found. IsListing found self.now.contents) }
+    {
+        let mut found = self.copied_names()?;
+        sort(&mut found);
+        Ok(found)
+    }
+
+    // The names of all files, in the order of the files.
+    fn copied_names(&self) -> Result<NameList, OutOfMemory>
+        ensures { IfOk result (λ found. found ≡ names self.now.contents) }
+    {
+        let mut found = NameList::new(self.alloc);
+        'parts: for part in self.parts.as_slice() {
+            names_into(self.alloc, part.as_slice(), &mut found)?;
+        }
+        Ok(found)
+    }
+
+    // A shelf, for which room is kept.
+    fn begin(&mut self) -> Result<MemoryShelf, OutOfMemory>
+        ensures shelf { IfOk result (λ shelf. shelf ≡ record { made = []; begun = None; script = script_of self.old.script.failing (number_of self.new.shelves 0) }) }
+        ensures ok { OnOk result (self.new ≡ record self.old { out = self.old.out + 1; shelves = at_most_count (self.old.shelves + 1) }) }
+        ensures err { OnErr result (self.new ≡ self.old) }
+    {
+        let object = self.shelves.saturating_add(1);
+        let script = self.script.of(object, 0)?;
+        let room = self.out.saturating_add(1);
+        self.parts.reserve(room)?;
+        self.out += 1;
+        self.shelves = object;
+        Ok(MemoryShelf::new(self.alloc, script))
+    }
+}
+
+// The bytes of the first file of this name.
+fn file_in<'a>(files: &'a [MemoryFile], name: &str) -> Option<&'a [u8]>
+    ensures { MatchOption result (bytes_of files.now name.now ≡ None) (λ bytes. bytes_of files.now name.now ≡ Some bytes.now) }
+{
+    'files: for file in files {
+        if file.name() == name {
+            return Some(file.bytes());
+        }
+    }
+    None
+}
+
+// The place of the first file of this name.
+fn place_of(files: &[MemoryFile], name: &str) -> Option<usize>
+    ensures { result ≡ position (is_named name.now) files.now }
+{
+    files.iter().position(|file| file.name() == name)
+}
+
+// Whether one of the files has this name.
+fn has_name(files: &[MemoryFile], name: &str) -> bool
+    ensures { result ≡ list_any (is_named name.now) files.now }
+{
+    files.iter().any(|file| file.name() == name)
+}
+
+// The first part with a file of this name.
+fn part_of(parts: &[Vec<MemoryFile>], name: &str) -> Option<usize>
+    ensures { result ≡ position (λ part. list_any (is_named name.now) part.items) parts.now }
+{
+    parts
+        .iter()
+        .position(|part| has_name(part.as_slice(), name))
+}
+
+// Puts a file in the place of the one of its name.
+fn put_in(files: &mut Vec<MemoryFile>, file: MemoryFile)
+    requires { list_any (is_named file.name) files.old.items ≡ true }
+    ensures { files.new.items ≡ with_file files.old.items file }
+{
+    if let Some(place) = place_of(files.as_slice(), file.name()) {
+        files[place] = file;
+    }
+}
+
+// Puts a file in the place of the one of its name, in the first part that has it.
+fn put_among(parts: &mut Vec<Vec<MemoryFile>>, part: usize, file: MemoryFile)
+    requires { position (λ part. list_any (is_named file.name) part.items) parts.old.items ≡ Some part }
+    ensures files { flat_map (λ part. part.items) parts.new.items ≡ with_file (flat_map (λ part. part.items) parts.old.items) file }
+    ensures len { vec_len parts.new ≡ vec_len parts.old }
+    ensures capacity { vec_capacity parts.new ≡ vec_capacity parts.old }
+{
+    put_in(&mut parts[part], file);
+}
+
+// Puts a file whose name stands nowhere yet after all others.
+fn put_after(
+    alloc: Global,
+    parts: &mut Vec<Vec<MemoryFile>>,
+    file: MemoryFile,
+) -> Result<(), OutOfMemory>
+    requires { position (λ part. list_any (is_named file.name) part.items) parts.old.items ≡ None }
+    ensures ok { OnOk result (flat_map (λ part. part.items) parts.new.items ≡ with_file (flat_map (λ part. part.items) parts.old.items) file) }
+    ensures err { OnErr result (parts.new.items ≡ parts.old.items) }
+{
+    let mut last = Vec::new(alloc);
+    last.reserve(1)?;
+    parts.reserve(1)?;
+    last.push_reserved(file);
+    parts.push_reserved(last);
+    Ok(())
+}
+
+// Puts names in the order of their bytes.
+fn sort(names: &mut NameList)
+    ensures permutation { IsPermutation names.new names.old }
+    ensures sorted { IsSorted (slice_cmp nat_cmp) names.new }
+{
+    names.as_mut_slice().sort_unstable();
+}
+
+// Copies each name.
+fn names_into(alloc: Global, files: &[MemoryFile], found: &mut NameList) -> Result<(), OutOfMemory>
+    ensures { OnOk result (found.new ≡ found.old ++ names files.now) }
+{
+    'files: for file in files {
+        found.push(Name::of(alloc, file.name())?)?;
+    }
+    Ok(())
+}
+
+impl Folder for MemoryFolder {
+    type Shelf = MemoryShelf;
+
+    ghost tells = { λ _. Unit {0} };
+
+    ghost contents = { λ folder. folder.contents };
+
+    ghost path_of = { λ folder. folder.path };
+
+    ghost out = { λ folder. folder.out };
+
+    ghost faults = { λ folder. faults_of folder.script };
+
+    fn aim(&mut self, path: &str) -> Result<(), OutOfMemory>
+        ensures { self.new ≡ record self.old { path = if is_ok result then Some path.now else self.old.path } }
+    {
+        let path = Name::of(self.alloc, path)?;
+        self.path = Some(path);
+        Ok(())
+    }
+
+    fn list(&mut self) -> Result<NameList, ListFault>
+        ensures names { IfOk result (λ found. IsListing found self.old.contents) }
+        ensures folder { self.new ≡ record self.old { script = after_call self.old.script } }
+        ensures listed { is_listed self.old.script ≡ true → result ≡ Err ListFault.Failed }
+        ensures failed { result ≡ Err ListFault.Failed → is_listed self.old.script ≡ true }
+    {
+        if self.script.fails() {
+            return Err(ListFault::Failed);
+        }
+        match self.names() {
+            Ok(names) => Ok(names),
+            Err(OutOfMemory) => Err(ListFault::OutOfMemory),
+        }
+    }
+
+    fn shelf(&mut self) -> Result<MemoryShelf, FolderFailed>
+        ensures shelf { IfOk result (λ shelf. shelf ≡ record { made = []; begun = None; script = script_of self.old.script.failing (number_of self.new.shelves 0) }) }
+        ensures folder { self.new ≡ record self.old { out = if is_ok result then self.old.out + 1 else self.old.out; shelves = if is_ok result then at_most_count (self.old.shelves + 1) else self.old.shelves; script = self.new.script } }
+        ensures counts { Counted self.old.script false result self.new.script }
+    {
+        if self.script.fails() {
+            return Err(FolderFailed);
+        }
+        match self.begin() {
+            Ok(shelf) => Ok(shelf),
+            Err(OutOfMemory) => {
+                self.script.lack_memory();
+                Err(FolderFailed)
+            }
+        }
+    }
+
+    fn take_back(&mut self, shelf: MemoryShelf)
+        requires out { 0 < self.old.out }
+
+        ensures folder { self.new ≡ record self.old { contents = self.old.contents ++ shelf.made; out = self.old.out - 1; script = sum_of_counts self.old.script shelf.script } }
+    {
+        let (made, script) = shelf.close();
+        self.out -= 1;
+        self.parts.push_reserved(made);
+        self.script.add(&script);
+    }
+}

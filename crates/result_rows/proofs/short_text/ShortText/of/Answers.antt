@@ -1,9 +1,0 @@
-use Rattle.std.proofs.Common.{ap, ◌∙◌}
-use Rattle.result_rows.specs.KeptText.{text_of}
-use Rattle.result_rows.proofs.Texts.{is_kept, kept_is}
-use Rattle.result_rows.proofs.short_text.ShortText.of.Goals as goal
-
-pub returns : goal.returns
-returns c =
-    let kept = is_kept c.min-size.result c.args.bytes.now c.put_front.new.all c.min-size.ensures c.put_front.ensures in
-    record { kept = kept; text = ap (λ t. text_of t) kept ∙ kept_is c.args.bytes.now }

@@ -1,0 +1,9 @@
+pub mod Agree
+pub mod Bag
+pub mod Equal
+pub mod Fold
+pub mod History
+pub mod Laws
+pub mod Lending
+pub mod Names
+pub mod Select

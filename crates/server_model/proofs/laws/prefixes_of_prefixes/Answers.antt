@@ -1,5 +1,0 @@
-use Rattle.server_model.proofs.Orders.{of_prefix}
-use Rattle.server_model.proofs.laws.prefixes_of_prefixes.Goals as goal
-
-pub returns : goal.returns
-returns c = λ front more whole one other. of_prefix front more whole one other

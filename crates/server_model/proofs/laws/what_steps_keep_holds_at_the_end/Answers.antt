@@ -1,5 +1,0 @@
-use Rattle.server_model.proofs.Orders.{kept_to_end}
-use Rattle.server_model.proofs.laws.what_steps_keep_holds_at_the_end.Goals as goal
-
-pub returns : goal.returns
-returns c = λ after holds keeps lists whole order state held. kept_to_end after holds keeps order state held

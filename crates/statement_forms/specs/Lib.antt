@@ -1,0 +1,5 @@
+pub mod Form
+pub mod Held
+pub mod Insert
+pub mod Statement
+pub mod Text

@@ -1,0 +1,13 @@
+pub mod Answer
+pub mod Definition
+pub mod Greeting
+pub mod KeptText
+pub mod Lenenc
+pub mod Packet
+pub mod Reading
+pub mod Reply
+pub mod Response
+pub mod ResultSet
+pub mod Row
+pub mod Switch
+pub mod Texts

@@ -1,0 +1,14 @@
+-- The response to a greeting (MySQL source documentation, Protocol::HandshakeResponse41).
+use Rattle.std.specs.Prelude.{ℕ, List, [], ◌∷◌, ◌++◌, length, replicate, Option, Some, None}
+use Rattle.wire_forms.specs.Texts.{native_password}
+
+-- the answer to the scramble after its length; an empty password has no answer
+abbrev pub answer_field : Option (List ℕ) → List ℕ
+answer_field None = 0 ∷ []
+answer_field (Some answer) = length answer ∷ answer
+
+-- capabilities, largest packet, character set, 23 zeros, user and 00, answer, plugin and 00
+abbrev pub response : List ℕ → Option (List ℕ) → List ℕ
+response user answer =
+    (0x05 ∷ 0xa2 ∷ 0x08 ∷ 0x00 ∷ []) ++ (0x00 ∷ 0x00 ∷ 0x00 ∷ 0x04 ∷ []) ++ (0x2d ∷ []) ++ replicate 23 0
+    ++ user ++ (0 ∷ []) ++ answer_field answer ++ native_password ++ (0 ∷ [])
