@@ -1,8 +1,10 @@
 #!/usr/bin/env bash
 # Shows mydumper at work: starts a real server on files in a temporary folder, makes two tables, one of
-# them with a single text of 40 MiB, dumps them, loads the files with the server's own client into a
-# second database, and compares the tables. One table is dumped by an account with a password too, and
-# is refused where the password is wrong. The status is 0 exactly where all of it is as it should be.
+# them with a single text of 40 MiB, dumps one, loads the file with the server's own client into a second
+# database, and compares the tables. So far the program is compiled without its proof, within a minute.
+# With --proved the program is proved and built first; then one table is dumped by an account with a
+# password too, and refused where the password is wrong, and the long text is dumped and loaded.
+# The status is 0 exactly where all of it is as it should be.
 set -u
 
 PORT=3306
@@ -17,6 +19,16 @@ LONG_TABLE=texts
 
 # The longest message of the server that mydumper reads, in bytes.
 LIMIT=67108864
+
+proved=
+case "${1-}" in
+--proved) proved=yes ;;
+'') ;;
+*)
+    printf 'demo: the only word is --proved\n' >&2
+    exit 2
+    ;;
+esac
 
 top=$(cd "$(dirname "${BASH_SOURCE[0]}")" && pwd) || exit 1
 folder=
@@ -77,12 +89,15 @@ install_server() {
     policy=
 }
 
-# Proves and builds the program. `rt run` runs it too: without words it ends with status 2.
+# Proves and builds the program, the crates below it side by side. `rt run` runs it too: without words it
+# ends with status 2.
 build_program() {
-    command -v rt >/dev/null || fail "the toolchain's command rt is not at hand"
-    say "proving and building mydumper (the first time takes some minutes)"
+    say "proving and building mydumper (from nothing it takes a quarter of an hour)"
     rm -f "$top/crates/mydumper/out/mydumper"
-    (cd "$top/crates/mydumper" && rt run) >"$folder/build.log" 2>&1 </dev/null
+    {
+        (cd "$top" && rt all check --jobs "$(nproc)")
+        (cd "$top/crates/mydumper" && rt run)
+    } >"$folder/build.log" 2>&1 </dev/null
     program=$top/crates/mydumper/out/mydumper
     [ -x "$program" ] || {
         tail -n 20 "$folder/build.log" >&2
@@ -177,11 +192,18 @@ long_text_of() {
     client --batch --skip-column-names -e "SELECT COUNT(*), SUM(LENGTH(note)), MAX(MD5(note)) FROM $1.$LONG_TABLE"
 }
 
-# Runs mydumper with these words; its status is $status then.
+# Runs mydumper with these words; its status is $status then. The folder that it dumps into is the last word.
 run() {
     say "mydumper $*"
-    (cd "$folder" && "$program" "$@")
-    status=$?
+    if [ -n "$proved" ]; then
+        (cd "$folder" && "$program" "$@")
+        status=$?
+    else
+        local words=("${@:1:$#-1}") into=$folder/${!#}
+        (cd "$top/crates/mydumper" && rt try -- "${words[@]}" "$into") >"$folder/try.log" 2>&1 </dev/null
+        status=$?
+        [ "$status" -eq 0 ] || tail -n 5 "$folder/try.log" >&2
+    fi
 }
 
 # Dumps a table of $SOURCE into this new folder, by the account of the further words; the file is $file then.
@@ -217,7 +239,12 @@ mariadbd=$(find_server) || {
     install_server
     mariadbd=$(find_server) || fail "mariadb-server was installed, and there is no mariadbd"
 }
-build_program
+command -v rt >/dev/null || fail "the toolchain's command rt is not at hand"
+if [ -n "$proved" ]; then
+    build_program
+else
+    say "this run compiles mydumper and proves nothing; ./demo.sh --proved builds it with its proof"
+fi
 say "starting $("$mariadbd" --no-defaults --version | sed 's/^[^ ]* *//')"
 start_server
 make_tables
@@ -228,6 +255,8 @@ first=$file
 load
 compare_tables || fail "$SOURCE.$TABLE and $TARGET.$TABLE are not equal"
 say "$SOURCE.$TABLE and $TARGET.$TABLE: $(wc -l <"$folder/source.rows") rows, equal"
+
+[ -n "$proved" ] || exit 0
 
 dump "$TABLE" dump_keeper -u "$GUARDED" -p "$PASSWORD"
 cmp "$first" "$file" || fail "the two files of $SOURCE.$TABLE are not equal"
