@@ -1,4 +1,4 @@
-// Laws of places: the contract of each function is one of them.
+//! Laws of places: the contract of each function is one of them.
 ghost use Rattle.std.specs.Prelude.{◌≡◌, ℕ, List, Result};
 ghost use Rattle.grammar.specs.Language.{Language, IsPlace, Longest, Reads};
 

@@ -1,4 +1,4 @@
-// Readers of fixed texts, and of parts in a row.
+//! Readers of fixed texts, and of parts in a row.
 ghost use Rattle.std.specs.Prelude.{◌≡◌, ◌+◌, ◌<◌, ◌^◌, slice_index};
 ghost use Rattle.grammar.specs.Language.{Reads, Fixed};
 ghost use Rattle.grammar.specs.Reading.{shift, size_of, optional};

@@ -1,4 +1,4 @@
-// Bytes with reserved room.
+//! Bytes with reserved room.
 ghost use Rattle.std.specs.Prelude.{◌≡◌, ◌+◌, ◌<◌, ◌≤◌, [], ◌∷◌, ◌++◌, length, IsOk, OnOk, OnErr};
 
 use crate::memory::OutOfMemory;

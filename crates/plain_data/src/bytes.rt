@@ -1,4 +1,4 @@
-// Bytes and names, which contracts see as lists of bytes.
+//! Bytes and names, which contracts see as lists of bytes.
 ghost use Rattle.std.specs.Prelude.{◌≡◌, IfOk, IsUtf8, Some, nat_eq, refl};
 ghost use Rattle.std.specs.Ordering.{nat_cmp};
 ghost use Rattle.std.specs.Cmp.{partial_equiv_from_equiv};

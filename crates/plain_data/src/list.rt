@@ -1,4 +1,4 @@
-// Lists of plain data, which contracts see as lists.
+//! Lists of plain data, which contracts see as lists.
 ghost use Rattle.std.specs.Prelude.{◌≡◌, ◌∷◌, ◌++◌, [], IfOk, OnOk, OnErr};
 ghost use Rattle.std.specs.Borrow.{sem};
 ghost use Rattle.plain_data.specs.Lending.{lends_list};
@@ -14,8 +14,16 @@ pub trait Plain: Drop + Sized {
         ensures { IfOk result (λ made. made ≡ self.now) };
 }
 
+// A copy takes no memory.
 impl Plain for u64 {
     fn duplicate(&self) -> Result<u64, OutOfMemory> {
+        Ok(*self)
+    }
+}
+
+// A copy takes no memory.
+impl Plain for u32 {
+    fn duplicate(&self) -> Result<u32, OutOfMemory> {
         Ok(*self)
     }
 }

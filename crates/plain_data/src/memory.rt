@@ -1,4 +1,4 @@
-// The error of a call that only memory can refuse.
+//! The error of a call that only memory can refuse.
 ghost use Rattle.std.specs.Prelude.{◌≡◌};
 
 use std::alloc::{AllocError, AllocFailed};

@@ -1,10 +1,10 @@
--- Literals of SQL as they are written (MySQL 8.0 Reference Manual, 11.1.1 "String Literals", 11.1.2 "Numeric Literals", 11.1.4 "Hexadecimal Literals", 11.1.7 "NULL Values").
+-- Literals of SQL as they are written (MySQL 8.0 Reference Manual, 11.1.1 "String Literals", 11.1.2 "Numeric Literals", 11.1.4 "Hexadecimal Literals", 11.1.7 "NULL Values"; 14.10 "Cast Functions and Operators").
 use Rattle.std.specs.Prelude.{ℕ, ◌==◌, ◌||◌, if◌then◌else◌, Bool, true, List, [], ◌∷◌, ◌++◌, Option, Some, None, codes}
 use Rattle.std.specs.List.{flat_map}
 use Rattle.hex.specs.Hex.{encode_upper}
 use Rattle.sql_cells.specs.Number.{is_number}
 use Rattle.sql_cells.specs.declared.cell_kind.CellKind.{CellKind}
-use Rattle.sql_cells.specs.declared.cell_kind.CellKind.TheVariants.{Number, Text, Hex}
+use Rattle.sql_cells.specs.declared.cell_kind.CellKind.TheVariants.{Number, Text, Hex, Converted}
 
 -- a cell of a row: NULL, or its bytes
 abbrev pub Cell : Type 0
@@ -29,16 +29,28 @@ text_literal bytes = 39 ∷ flat_map escaped_byte bytes ++ 39 ∷ []
 abbrev pub hex_literal : List ℕ → List ℕ
 hex_literal bytes = 88 ∷ 39 ∷ encode_upper bytes ++ 39 ∷ []
 
+-- a text literal as a text of utf8mb4, so that a column of JSON takes it
+abbrev pub converted_literal : List ℕ → List ℕ
+converted_literal bytes = codes "CONVERT(" ++ text_literal bytes ++ codes " USING utf8mb4)"
+
 -- the literal of a cell
 abbrev pub literal : CellKind → Cell → List ℕ
-literal kind None = codes "NULL"
+literal Number None = codes "NULL"
+literal Text None = codes "NULL"
+literal Hex None = codes "NULL"
+literal Converted None = codes "NULL"
 literal Number (Some bytes) = bytes
 literal Text (Some bytes) = text_literal bytes
 literal Hex (Some bytes) = hex_literal bytes
+literal Converted (Some bytes) = converted_literal bytes
 
 -- whether the cell has a literal of that kind: a number has to be one
 abbrev pub has_literal : CellKind → Cell → Bool
-has_literal kind None = true
+has_literal Number None = true
+has_literal Text None = true
+has_literal Hex None = true
+has_literal Converted None = true
 has_literal Number (Some bytes) = is_number bytes
 has_literal Text (Some bytes) = true
 has_literal Hex (Some bytes) = true
+has_literal Converted (Some bytes) = true

@@ -1,12 +1,13 @@
 -- Literals of SQL as they are read: which bytes are literals, and which cell each spells.
 -- Beside what is written they take \b for 08, a doubled quote for one, any byte but the quote and the backslash as it is, and lower-case hexadecimal digits.
-use Rattle.std.specs.Prelude.{ℕ, ◌≡◌, ◌-◌, ◌+◌, ◌==◌, ◌||◌, ◌⊎◌, ⊤, if◌then◌else◌, Bool, true, false, List, [], ◌∷◌, ◌++◌, length, take, drop, codes, Some, None, Result, Ok, Err}
+use Rattle.std.specs.Prelude.{ℕ, ◌≡◌, ◌-◌, ◌+◌, ◌==◌, ◌||◌, ◌⊎◌, ⊤, if◌then◌else◌, Bool, true, false, List, [], ◌∷◌, ◌++◌, length, take, drop, codes, Option, Some, None, option_map, Result, Ok, Err}
 use Rattle.hex.specs.Hex.{is_hex_digit, decode_pairs}
 use Rattle.hex.specs.declared.error.FromHexError.{FromHexError}
 use Rattle.grammar.specs.Language.{Language, Fixed, One, Then, Or, Many, Longest}
 use Rattle.sql_cells.specs.Number.{Number}
 use Rattle.sql_cells.specs.Literal.{Cell, literal}
 use Rattle.sql_cells.specs.declared.cell_kind.CellKind.{CellKind}
+use Rattle.sql_cells.specs.declared.cell_kind.CellKind.TheVariants as Kind
 
 unfoldable pub Null : Language
 Null = Fixed (codes "NULL")
@@ -48,8 +49,15 @@ OpenedHex = Then (Fixed (88 ∷ 39 ∷ [])) (Many Pair)
 unfoldable pub Hex : Language
 Hex = Then OpenedHex (Fixed (39 ∷ []))
 
+unfoldable pub OpenedConverted : Language
+OpenedConverted = Then (Fixed (codes "CONVERT(")) Text
+
+-- a text as one of utf8mb4, in this spelling only (MySQL 8.0 Reference Manual, 14.10 "Cast Functions and Operators")
+unfoldable pub Converted : Language
+Converted = Then OpenedConverted (Fixed (codes " USING utf8mb4)"))
+
 unfoldable pub Literal : Language
-Literal = Or Null (Or Number (Or Text Hex))
+Literal = Or Null (Or Number (Or Text (Or Hex Converted)))
 
 -- the byte that a letter after a backslash stands for
 abbrev pub letter_value : ℕ → ℕ
@@ -66,14 +74,27 @@ abbrev pub hex_bytes : Result (List ℕ) FromHexError → List ℕ
 hex_bytes (Ok bytes) = bytes
 hex_bytes (Err fault) = []
 
--- the bytes without the first n and the last
-abbrev pub inside : ℕ → List ℕ → List ℕ
-inside n bytes = take (length bytes - (n + 1)) (drop n bytes)
+-- the bytes without the first and the last ones, of which there are so many
+abbrev pub inside : ℕ → ℕ → List ℕ → List ℕ
+inside first last bytes = take (length bytes - (first + last)) (drop first bytes)
 
 -- the cell that a literal spells: NULL, what stands between the quotes, or the bytes themselves where they are a number
 abbrev pub cell_of : List ℕ → Cell
 cell_of [] = None
-cell_of (byte ∷ bytes) = if byte == 78 then None else (if byte == 39 then Some (text_value (inside 1 (byte ∷ bytes))) else (if byte == 88 then Some (hex_bytes (decode_pairs 0 (inside 2 (byte ∷ bytes)))) else Some (byte ∷ bytes)))
+cell_of (byte ∷ bytes) =
+    if byte == 78 then None else (
+    if byte == 39 then Some (text_value (inside 1 1 (byte ∷ bytes))) else (
+    if byte == 88 then Some (hex_bytes (decode_pairs 0 (inside 2 1 (byte ∷ bytes)))) else (
+    if byte == 67 then Some (text_value (inside 9 16 (byte ∷ bytes))) else Some (byte ∷ bytes))))
+
+-- the kind as which a literal is spelled, by its first byte: NULL has none
+abbrev pub literal_kind : List ℕ → Option CellKind
+literal_kind [] = None
+literal_kind (byte ∷ bytes) =
+    if byte == 78 then None else (
+    if byte == 39 then Some Kind.Text else (
+    if byte == 88 then Some Kind.Hex else (
+    if byte == 67 then Some Kind.Converted else Some Kind.Number)))
 
 -- the bytes are a literal, and spell the cell
 pub record Spells (bytes : List ℕ) (cell : Cell) : Type 0 where
@@ -85,7 +106,8 @@ abbrev pub EndsThere : List ℕ → Type 0
 EndsThere [] = ⊤
 EndsThere (byte ∷ bytes) = (byte ≡ 44) ⊎ (byte ≡ 41)
 
--- What is written spells its cell, and is read back whole where nothing, a comma or a closing parenthesis follows.
+-- What is written spells its cell, as the kind that was asked for, and is read back whole where nothing, a comma or a closing parenthesis follows.
 pub record IsReadBack (kind : CellKind) (cell : Cell) : Type 0 where
   pub spells : Spells (literal kind cell) cell
+  pub kind_is : literal_kind (literal kind cell) ≡ option_map (λ _. kind) cell
   pub whole : (more : List ℕ) → EndsThere more → Longest Literal (literal kind cell ++ more) (length (literal kind cell))

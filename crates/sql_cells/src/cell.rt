@@ -1,4 +1,4 @@
-// Cells of rows.
+//! Cells of rows.
 ghost use Rattle.std.specs.Prelude.{◌≡◌, IfOk, option_copied};
 
 use plain_data::{Bytes, OutOfMemory};

@@ -1,4 +1,4 @@
-// Kinds of literals.
+//! Kinds of literals.
 
 /// How a column's cells are written.
 #[derive(Clone, Copy, Debug, PartialEq, Eq)]
@@ -9,4 +9,6 @@ pub enum CellKind {
     Text,
     /// As hexadecimal digits between X' and a quote.
     Hex,
+    /// As a JSON text: `CONVERT(`, its text between single quotes, and ` USING utf8mb4)`.
+    Converted,
 }

@@ -1,10 +1,13 @@
 -- How an escaped text grows byte by byte and run by run.
-use Rattle.std.proofs.Common.{◌≡◌, ◌==◌, subst, ℕ, suc, ◌+◌, ◌-◌, ◌*◌, ◌<◌, ◌≤◌, false, true, length-append, List, [], ◌∷◌, ◌++◌, length, get_or, take, drop, refl, sym, ap, ◌∙◌, take-add, arith, cond}
+use Rattle.std.proofs.Common.{◌≡◌, ◌==◌, subst, ℕ, suc, ◌+◌, ◌-◌, ◌*◌, ◌<◌, ◌≤◌, false, true, length-append, append_assoc, List, [], ◌∷◌, ◌++◌, length, get_or, take, drop, refl, sym, ap, ◌∙◌, take-add, arith, cond, None}
+use Rattle.std.specs.Prelude.{codes}
 use Rattle.std.specs.List.{flat_map, count_by}
 use Rattle.std.proofs.lemmas.List.{take_more, drop_more, take-append-drop, append-nil, drop-drop, get_or-drop, get_or-take, length-drop, length-take-le}
 use Rattle.std.proofs.lemmas.List.Sums.{count_by-le-length, sum_by-cons}
 use Rattle.std.proofs.lemmas.List.Concat.{flat_map-append}
-use Rattle.sql_cells.specs.Literal.{escaped_byte, is_special, letter_of, text_literal}
+use Rattle.sql_cells.specs.Literal.{escaped_byte, is_special, letter_of, text_literal, converted_literal, literal, has_literal}
+use Rattle.sql_cells.specs.declared.cell_kind.CellKind.{CellKind}
+use Rattle.sql_cells.specs.declared.cell_kind.CellKind.TheVariants.{Number, Text, Hex, Converted}
 use Rattle.sql_cells.specs.Name.{name_byte, quoted_name}
 use Rattle.sql_literals.specs.Runs.{PlainRun}
 
@@ -13,6 +16,20 @@ one_more f xs i h = ap (flat_map f) (take_more xs i 0 h) ∙ flat_map-append f (
 
 pub one_less : (f : ℕ → List ℕ) (xs : List ℕ) (i : ℕ) → i < length xs → flat_map f (drop i xs) ≡ f (get_or xs i 0) ++ flat_map f (drop (i + 1) xs)
 one_less f xs i h = ap (flat_map f) (drop_more xs i 0 h)
+
+-- A list up to one place and from there up to another, and so what is left.
+
+pub piece_more : (f : ℕ → List ℕ) (xs : List ℕ) (i j : ℕ) → i ≤ j → flat_map f (take j xs) ≡ flat_map f (take i xs) ++ flat_map f (take (j - i) (drop i xs))
+piece_more f xs i j low =
+    let sum : i + (j - i) ≡ j = omega arith in
+    let split : take j xs ≡ take i xs ++ take (j - i) (drop i xs) = subst (λ (n : ℕ). take n xs ≡ take i xs ++ take (j - i) (drop i xs)) sum (take-add i (j - i) xs) in
+    ap (flat_map f) split ∙ flat_map-append f (take i xs) (take (j - i) (drop i xs))
+
+pub piece_less : (f : ℕ → List ℕ) (xs : List ℕ) (i j : ℕ) → i ≤ j → flat_map f (drop i xs) ≡ flat_map f (take (j - i) (drop i xs)) ++ flat_map f (drop j xs)
+piece_less f xs i j low =
+    let sum : i + (j - i) ≡ j = omega arith in
+    let rest : drop (j - i) (drop i xs) ≡ drop j xs = drop-drop (j - i) i xs ∙ ap (λ n. drop n xs) sum in
+    ap (flat_map f) (sym (take-append-drop (j - i) (drop i xs)) ∙ ap (λ t. take (j - i) (drop i xs) ++ t) rest) ∙ flat_map-append f (take (j - i) (drop i xs)) (drop j xs)
 
 plain_byte : (b : ℕ) → is_special b ≡ false → escaped_byte b ≡ b ∷ []
 plain_byte b h = rw h
@@ -32,21 +49,12 @@ run_is_plain xs i j r =
     rw (get_or-take (j - i) (drop i xs) k 0 short, get_or-drop i xs k 0) (r.plain (i + k) (omega arith) (omega arith)))
 
 pub run_more : (xs : List ℕ) (i j : ℕ) → PlainRun xs i j → flat_map escaped_byte (take j xs) ≡ flat_map escaped_byte (take i xs) ++ take (j - i) (drop i xs)
-run_more xs i j r =
-    let sum : i + (j - i) ≡ j = omega (arith, r.low) in
-    let split : take j xs ≡ take i xs ++ take (j - i) (drop i xs) =
-    subst (λ (n : ℕ). take n xs ≡ take i xs ++ take (j - i) (drop i xs)) sum (take-add i (j - i) xs) in
-    ap (flat_map escaped_byte) split ∙ flat_map-append escaped_byte (take i xs) (take (j - i) (drop i xs)) ∙ ap (λ t. flat_map escaped_byte (take i xs) ++ t) (run_is_plain xs i j r)
+run_more xs i j r = piece_more escaped_byte xs i j r.low ∙ ap (λ t. flat_map escaped_byte (take i xs) ++ t) (run_is_plain xs i j r)
 
 pub run_less : (xs : List ℕ) (i j : ℕ) → PlainRun xs i j → flat_map escaped_byte (drop i xs) ≡ take (j - i) (drop i xs) ++ flat_map escaped_byte (drop j xs)
-run_less xs i j r =
-    let sum : i + (j - i) ≡ j = omega (arith, r.low) in
-    let rest : drop (j - i) (drop i xs) ≡ drop j xs = drop-drop (j - i) i xs ∙ ap (λ n. drop n xs) sum in
-    let split : drop i xs ≡ take (j - i) (drop i xs) ++ drop j xs =
-    sym (take-append-drop (j - i) (drop i xs)) ∙ ap (λ t. take (j - i) (drop i xs) ++ t) rest in
-    ap (flat_map escaped_byte) split ∙ flat_map-append escaped_byte (take (j - i) (drop i xs)) (drop j xs) ∙ ap (λ t. t ++ flat_map escaped_byte (drop j xs)) (run_is_plain xs i j r)
+run_less xs i j r = piece_less escaped_byte xs i j r.low ∙ ap (λ t. t ++ flat_map escaped_byte (drop j xs)) (run_is_plain xs i j r)
 
-byte_length : (b : ℕ) → length (escaped_byte b) ≡ 1 + cond (is_special b) 1 0
+pub byte_length : (b : ℕ) → length (escaped_byte b) ≡ 1 + cond (is_special b) 1 0
 byte_length b = elim (is_special b) as (λ s. length (cond s (92 ∷ letter_of b ∷ []) (b ∷ [])) ≡ 1 + cond s 1 0) [ true ↦ refl | false ↦ refl ]
 
 escaped_length : (xs : List ℕ) → length (flat_map escaped_byte xs) ≡ length xs + count_by is_special xs
@@ -57,6 +65,17 @@ escaped_length (x ∷ xs) =
 
 pub quoted_length : (xs : List ℕ) → length (text_literal xs) ≡ length xs + count_by is_special xs + 2
 quoted_length xs = simp length-append (omega (arith, escaped_length xs))
+
+pub literal_length : (xs : List ℕ) → length (text_literal xs) ≡ length (flat_map escaped_byte xs) + 2
+literal_length xs = simp length-append (omega arith)
+
+pub converted_length : (xs : List ℕ) → length (converted_literal xs) ≡ length (text_literal xs) + 23
+converted_length xs = length-append (codes "CONVERT(" ++ text_literal xs) (codes " USING utf8mb4)") ∙ omega (arith, length-append (codes "CONVERT(") (text_literal xs))
+
+pub converted_appended : (out xs : List ℕ) → ((out ++ codes "CONVERT(") ++ text_literal xs) ++ codes " USING utf8mb4)" ≡ out ++ converted_literal xs
+converted_appended out xs =
+    ap (λ t. t ++ codes " USING utf8mb4)") (append_assoc out (codes "CONVERT(") (text_literal xs))
+    ∙ append_assoc out (codes "CONVERT(" ++ text_literal xs) (codes " USING utf8mb4)")
 
 name_byte_length : (b : ℕ) → length (name_byte b) ≡ 1 + cond (b == 96) 1 0
 name_byte_length b = elim (b == 96) as (λ s. length (cond s (96 ∷ 96 ∷ []) (b ∷ [])) ≡ 1 + cond s 1 0) [ true ↦ refl | false ↦ refl ]
@@ -72,3 +91,17 @@ quoted_name_length xs = simp length-append (omega (arith, doubled_length xs))
 
 pub quoted_bound : (xs : List ℕ) → length (text_literal xs) ≤ 2 * length xs + 2
 quoted_bound xs = omega (arith, quoted_length xs, count_by-le-length is_special xs)
+
+-- NULL is spelled alike as every kind
+
+pub null_literal : (kind : CellKind) → literal kind None ≡ codes "NULL"
+null_literal Number = refl
+null_literal Text = refl
+null_literal Hex = refl
+null_literal Converted = refl
+
+pub null_has : (kind : CellKind) → has_literal kind None ≡ true
+null_has Number = refl
+null_has Text = refl
+null_has Hex = refl
+null_has Converted = refl

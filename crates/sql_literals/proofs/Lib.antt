@@ -1,3 +1,4 @@
+pub mod ConvertedReads
 pub mod Counts
 pub mod Fulls
 pub mod Grammar
@@ -9,6 +10,7 @@ pub mod LiteralReads
 pub mod Marks
 pub mod NumberReads
 pub mod Numbers
+pub mod Tables
 pub mod ReadBacks
 pub mod TextReads
 pub mod Units

@@ -1,6 +1,7 @@
 -- Runs of bytes that stand for themselves.
-use Rattle.std.specs.Prelude.{ℕ, Bool, ◌≡◌, ◌<◌, ◌≤◌, false, List, length, map, slice_index, if◌then◌else◌}
-use Rattle.sql_cells.specs.Literal.{is_special}
+use Rattle.std.specs.Prelude.{ℕ, Bool, ◌≡◌, ◌*◌, ◌<◌, ◌≤◌, false, List, length, map, slice_index, take, if◌then◌else◌}
+use Rattle.std.specs.List.{flat_map}
+use Rattle.sql_cells.specs.Literal.{is_special, escaped_byte}
 
 -- the bytes from the one place up to the other are there, and none of them is special
 pub record PlainRun (bytes : List ℕ) (from to : ℕ) : Type 0 where
@@ -11,3 +12,8 @@ pub record PlainRun (bytes : List ℕ) (from to : ℕ) : Type 0 where
 -- 255 at each byte that passes the test, and 0 elsewhere
 abbrev pub marks : (ℕ → Bool) → List ℕ → List ℕ
 marks test bytes = map (λ byte. if test byte then 255 else 0) bytes
+
+-- so many of the bytes stand escaped at the front of the room, up to a place
+pub record Escaped (bytes : List ℕ) (done : ℕ) (room : List ℕ) (at : ℕ) : Type 0 where
+  pub within : at ≤ 2 * done
+  pub bytes_are : take at room ≡ flat_map escaped_byte (take done bytes)

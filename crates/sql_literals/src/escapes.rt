@@ -1,4 +1,4 @@
-// What stands between quotes, as it is read.
+//! What stands between quotes, as it is read.
 ghost use Rattle.std.specs.Prelude.{◌≡◌, ◌<◌, ◌≤◌, ◌∷◌, length, drop, IfOk};
 ghost use Rattle.sql_cells.specs.Spelling.{letter_value, text_value};
 

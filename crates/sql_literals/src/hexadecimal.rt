@@ -1,4 +1,4 @@
-// Bytes as hexadecimal digits.
+//! Bytes as hexadecimal digits.
 ghost use Rattle.std.specs.Prelude.{◌≡◌, ◌+◌, ◌*◌, ◌≤◌, ◌^◌, ◌++◌, length, IsOk, OnOk, OnErr, MatchOption};
 ghost use Rattle.hex.specs.Hex.{encode_upper};
 ghost use Rattle.sql_cells.specs.Literal.{hex_literal};
@@ -20,7 +20,8 @@ pub(crate) fn hexadecimal_length(bytes: &[u8]) -> usize
 // The same of any bytes, if that many can be counted.
 #[tactic(auto, using(crate::proofs::Hexadecimals::hexadecimal_length))]
 fn any_hexadecimal_length(bytes: &[u8]) -> Option<usize>
-    ensures { MatchOption result (2 ^ 64 ≤ length (hex_literal bytes.now)) (λ n. n ≡ length (hex_literal bytes.now)) }
+    ensures { let size = length (hex_literal bytes.now) in
+        MatchOption result (2 ^ 64 ≤ size) (λ n. n ≡ size) }
 {
     bytes.len().checked_mul(2)?.checked_add(3)
 }
@@ -68,7 +69,8 @@ fn push_digits(bytes: &[u8], out: &mut Buffer)
 pub(crate) fn hexadecimal_into(bytes: &[u8], out: &mut Buffer) -> Result<(), OutOfMemory>
     ensures ok { OnOk result (out.new.bytes ≡ out.old.bytes ++ hex_literal bytes.now) }
     ensures err { OnErr result (out.new ≡ out.old) }
-    ensures room { length (hex_literal bytes.now) ≤ out.old.spare → IsOk result × (out.new.spare + length (hex_literal bytes.now) ≡ out.old.spare) }
+    ensures room { length (hex_literal bytes.now) ≤ out.old.spare →
+        IsOk result × (out.new.spare + length (hex_literal bytes.now) ≡ out.old.spare) }
 {
     let _spare = out.spare();
     let Some(length) = any_hexadecimal_length(bytes) else {

@@ -2,12 +2,15 @@
 //! reserved room, and literals as they are read back.
 #![tactic(auto)]
 
+mod converted;
+mod dense;
 mod escapes;
 mod hexadecimal;
 mod laws;
 mod literal;
 mod name;
 mod number;
+mod pairs;
 mod reading;
 mod special;
 mod text;

@@ -1,7 +1,8 @@
-// Literals of cells.
+//! Literals of cells.
 ghost use Rattle.std.specs.Prelude.{◌≡◌, ◌↔◌, ◌+◌, ◌≤◌, ◌++◌, length, true, false, is_ok, IfSome, IfOk, IsOk, OnOk, OnErr, IsErrOf, option_copied};
 ghost use Rattle.sql_cells.specs.Literal.{literal, has_literal};
 
+use crate::converted::{converted_into, converted_length};
 use crate::hexadecimal::{hexadecimal_into, hexadecimal_length};
 use crate::number::is_number;
 use crate::text::{text_into, text_length};
@@ -27,6 +28,7 @@ pub enum CellFault {
 
 /// How many bytes the literal of a cell of at most 64 MiB has. It is refused exactly where
 /// [`cell_into`] finds that the cell isn't a number. Takes no memory.
+#[tactic(auto, using(crate::proofs::Growth::null_literal, crate::proofs::Growth::null_has))]
 pub fn cell_length(kind: CellKind, cell: Option<&[u8]>) -> Result<usize, NotANumber>
     requires { IfSome cell (λ bytes. length bytes.now ≤ 67108864) }
     ensures ok { IfOk result (λ size. size ≡ length (literal kind (option_copied cell.entry))) }
@@ -44,6 +46,7 @@ pub fn cell_length(kind: CellKind, cell: Option<&[u8]>) -> Result<usize, NotANum
         }
         CellKind::Text => Ok(text_length(bytes)),
         CellKind::Hex => Ok(hexadecimal_length(bytes)),
+        CellKind::Converted => Ok(converted_length(bytes)),
     }
 }
 
@@ -52,7 +55,8 @@ pub fn cell_length(kind: CellKind, cell: Option<&[u8]>) -> Result<usize, NotANum
 fn bytes_into(bytes: &[u8], out: &mut Buffer) -> Result<(), OutOfMemory>
     ensures ok { OnOk result (out.new.bytes ≡ out.old.bytes ++ bytes.now) }
     ensures err { OnErr result (out.new ≡ out.old) }
-    ensures room { length bytes.now ≤ out.old.spare → IsOk result × (out.new.spare + length bytes.now ≡ out.old.spare) }
+    ensures room { length bytes.now ≤ out.old.spare →
+        IsOk result × (out.new.spare + length bytes.now ≡ out.old.spare) }
 {
     out.reserve(bytes.len())?;
     out.push(bytes);
@@ -60,17 +64,24 @@ fn bytes_into(bytes: &[u8], out: &mut Buffer) -> Result<(), OutOfMemory>
 }
 
 /// Appends the literal of a cell: NULL, a number as it stands, text between single quotes with its
-/// special bytes escaped, or hexadecimal digits between X' and a quote (MySQL 8.0 Reference Manual,
-/// 11.1.1 "String Literals", 11.1.2 "Numeric Literals", 11.1.4 "Hexadecimal Literals"). It is refused where the cell of a numeric column isn't a number,
-/// and for want of memory, and leaves the buffer as it was then. Where the room is there it takes
-/// no memory.
+/// special bytes escaped, hexadecimal digits between X' and a quote, or a text of JSON as such a
+/// text between `CONVERT(` and ` USING utf8mb4)` (MySQL 8.0 Reference Manual, 11.1.1 "String
+/// Literals", 11.1.2 "Numeric Literals", 11.1.4 "Hexadecimal Literals", 14.10 "Cast Functions and
+/// Operators"). It is refused where the cell of a numeric column isn't a number, and for want of
+/// memory, and leaves the buffer as it was then. Where the room is there it takes no memory.
 #[inline]
+#[tactic(auto, using(crate::proofs::Growth::null_literal, crate::proofs::Growth::null_has))]
 pub fn cell_into(kind: CellKind, cell: Option<&[u8]>, out: &mut Buffer) -> Result<(), CellFault>
-    ensures ok { OnOk result (out.new.bytes ≡ out.old.bytes ++ literal kind (option_copied cell.entry)) }
-    ensures not_a_number { IsErrOf result CellFault.NotANumber ↔ (has_literal kind (option_copied cell.entry) ≡ false) }
-    ensures out_of_memory { IsErrOf result CellFault.OutOfMemory → has_literal kind (option_copied cell.entry) ≡ true }
+    ensures ok { let written = literal kind (option_copied cell.entry) in
+        OnOk result (out.new.bytes ≡ out.old.bytes ++ written) }
+    ensures not_a_number { IsErrOf result CellFault.NotANumber ↔
+        (has_literal kind (option_copied cell.entry) ≡ false) }
+    ensures out_of_memory { IsErrOf result CellFault.OutOfMemory →
+        has_literal kind (option_copied cell.entry) ≡ true }
     ensures err { OnErr result (out.new ≡ out.old) }
-    ensures room { has_literal kind (option_copied cell.entry) ≡ true → length (literal kind (option_copied cell.entry)) ≤ out.old.spare → IsOk result × (out.new.spare + length (literal kind (option_copied cell.entry)) ≡ out.old.spare) }
+    ensures room { let size = length (literal kind (option_copied cell.entry)) in
+        has_literal kind (option_copied cell.entry) ≡ true → size ≤ out.old.spare →
+        IsOk result × (out.new.spare + size ≡ out.old.spare) }
 {
     let appended = match (kind, cell) {
         (_, None) => bytes_into(b"NULL", out),
@@ -82,6 +93,7 @@ pub fn cell_into(kind: CellKind, cell: Option<&[u8]>, out: &mut Buffer) -> Resul
         }
         (CellKind::Text, Some(bytes)) => text_into(bytes, out),
         (CellKind::Hex, Some(bytes)) => hexadecimal_into(bytes, out),
+        (CellKind::Converted, Some(bytes)) => converted_into(bytes, out),
     };
     appended.map_err(|_| CellFault::OutOfMemory)
 }

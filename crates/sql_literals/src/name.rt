@@ -1,4 +1,4 @@
-// Quoted names.
+//! Quoted names.
 ghost use Rattle.std.specs.Prelude.{◌≡◌, ◌+◌, ◌≤◌, ◌^◌, ◌++◌, length, IsOk, OnOk, OnErr, MatchOption};
 ghost use Rattle.std.specs.List.{flat_map};
 ghost use Rattle.sql_cells.specs.Name.{name_byte, quoted_name};
@@ -8,7 +8,8 @@ use plain_data::{Buffer, OutOfMemory};
 /// How many bytes [`name_into`] appends, if that many can be counted. Takes no memory.
 #[tactic(auto, using(crate::proofs::Growth::quoted_name_length))]
 pub fn name_length(name: &[u8]) -> Option<usize>
-    ensures { MatchOption result (2 ^ 64 ≤ length (quoted_name name.now)) (λ n. n ≡ length (quoted_name name.now)) }
+    ensures { let size = length (quoted_name name.now) in
+        MatchOption result (2 ^ 64 ≤ size) (λ n. n ≡ size) }
 {
     let doubled = name.iter().filter(|byte| **byte == b'`').count();
     name.len().checked_add(doubled)?.checked_add(2)
@@ -37,11 +38,13 @@ fn push_name(name: &[u8], out: &mut Buffer)
 }
 
 /// Appends the quoted name: between backquotes, each backquote doubled. It is refused only for
-/// want of memory, and leaves the buffer as it was then. Where the room is there it takes no memory.
+/// want of memory, and leaves the buffer as it was then. Where the room is there it takes no
+/// memory.
 pub fn name_into(name: &[u8], out: &mut Buffer) -> Result<(), OutOfMemory>
     ensures ok { OnOk result (out.new.bytes ≡ out.old.bytes ++ quoted_name name.now) }
     ensures err { OnErr result (out.new ≡ out.old) }
-    ensures room { length (quoted_name name.now) ≤ out.old.spare → IsOk result × (out.new.spare + length (quoted_name name.now) ≡ out.old.spare) }
+    ensures room { length (quoted_name name.now) ≤ out.old.spare →
+        IsOk result × (out.new.spare + length (quoted_name name.now) ≡ out.old.spare) }
 {
     let _spare = out.spare();
     let Some(length) = name_length(name) else {

@@ -1,4 +1,4 @@
-// Numbers without an exponent.
+//! Numbers without an exponent.
 ghost use Rattle.std.specs.Prelude.{◌≡◌, ◌≤◌, length, false};
 ghost use Rattle.std.specs.List.{prefix_len};
 ghost use Rattle.sql_cells.specs.Number.{is_digit, is_digits, is_fraction, is_unsigned_after, is_number};

@@ -1,4 +1,4 @@
-// Special bytes, which a text literal writes after a backslash, and the runs between them.
+//! Special bytes, which a text literal writes after a backslash, and the runs between them.
 ghost use Rattle.std.specs.Prelude.{◌≡◌, ◌+◌, ◌≤◌, ◌==◌, length, map, bit_or, count_by, take, drop};
 ghost use Rattle.sql_cells.specs.Literal.{is_special, letter_of};
 ghost use Rattle.sql_literals.specs.Runs.{PlainRun, marks};
@@ -7,7 +7,7 @@ ghost use lib.Lanes.{mask_l, zip2};
 use std::simd::prelude::*;
 
 // 1 at each special byte.
-static MARKS: [u8; 256] = [
+pub(crate) static MARKS: [u8; 256] = [
     1, 0, 0, 0, 0, 0, 0, 0, 0, 0, 1, 0, 0, 1, 0, 0, 0, 0, 0, 0, 0, 0, 0, 0, 0, 0, 1, 0, 0, 0, 0, 0,
     0, 0, 1, 0, 0, 0, 0, 1, 0, 0, 0, 0, 0, 0, 0, 0, 0, 0, 0, 0, 0, 0, 0, 0, 0, 0, 0, 0, 0, 0, 0, 0,
     0, 0, 0, 0, 0, 0, 0, 0, 0, 0, 0, 0, 0, 0, 0, 0, 0, 0, 0, 0, 0, 0, 0, 0, 0, 0, 0, 0, 1, 0, 0, 0,

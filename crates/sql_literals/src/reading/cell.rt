@@ -1,5 +1,5 @@
 // The cell of the literal in front.
-ghost use Rattle.std.specs.Prelude.{◌≡◌, ◌≤◌, ℕ, take, IfOk, IsErrOf};
+ghost use Rattle.std.specs.Prelude.{◌≡◌, ◌+◌, ◌≤◌, ℕ, take, IfOk, IsErrOf};
 ghost use Rattle.hex.specs.Hex.{decode_pairs};
 ghost use Rattle.grammar.specs.Language.{Longest, Absent};
 ghost use Rattle.sql_cells.specs.Cell.{bytes_of};
@@ -23,16 +23,16 @@ pub enum LiteralFault {
     OutOfMemory,
 }
 
-// The bytes without the first `skipped` and the last.
+// The bytes without the `first` first and the `last` last ones.
 #[inline]
-fn inside(skipped: usize, text: &[u8]) -> &[u8]
-    requires { skipped ≤ 2 }
-    ensures { result.now ≡ inside skipped text.now }
+fn inside(first: usize, last: usize, text: &[u8]) -> &[u8]
+    requires { first + last ≤ 25 }
+    ensures { result.now ≡ inside first last text.now }
 {
-    if text.len() <= skipped + 1 {
+    if text.len() <= first + last {
         return &[];
     }
-    &text[skipped..text.len() - 1]
+    &text[first..text.len() - last]
 }
 
 // The bytes that pairs of digits stand for.
@@ -52,8 +52,9 @@ fn cell_of(alloc: Global, text: &[u8]) -> Result<Cell, OutOfMemory>
 {
     match text {
         [] | [b'N', ..] => Ok(Cell::Null),
-        [b'\'', ..] => Ok(Cell::Value(unescape(alloc, inside(1, text))?)),
-        [b'X', ..] => Ok(Cell::Value(bytes_of_digits(alloc, inside(2, text))?)),
+        [b'\'', ..] => Ok(Cell::Value(unescape(alloc, inside(1, 1, text))?)),
+        [b'X', ..] => Ok(Cell::Value(bytes_of_digits(alloc, inside(2, 1, text))?)),
+        [b'C', ..] => Ok(Cell::Value(unescape(alloc, inside(9, 16, text))?)),
         _ => Ok(Cell::Value(Bytes::of(alloc, text)?)),
     }
 }
@@ -63,9 +64,12 @@ fn cell_of(alloc: Global, text: &[u8]) -> Result<Cell, OutOfMemory>
 /// want of memory. NULL is [`Cell::Null`], and never an empty value (MySQL 8.0 Reference Manual,
 /// 11.1.7 "NULL Values"). Memory is taken for the cell's bytes alone.
 pub fn literal_read(alloc: Global, bytes: &[u8]) -> Result<(Cell, usize), LiteralFault>
-    ensures ok { IfOk result (λ read. Longest Literal bytes.now read.1 × (bytes_of read.0 ≡ cell_of (take read.1 bytes.now))) }
-    ensures not_a_literal { (place : ℕ) → IsErrOf result (LiteralFault.NotALiteral place) → Absent Literal bytes.now place }
-    ensures out_of_memory { IsErrOf result LiteralFault.OutOfMemory → (size : ℕ) × Longest Literal bytes.now size }
+    ensures ok { IfOk result (λ read. Longest Literal bytes.now read.1) }
+    ensures cell { IfOk result (λ read. bytes_of read.0 ≡ cell_of (take read.1 bytes.now)) }
+    ensures not_a_literal { (place : ℕ) →
+        IsErrOf result (LiteralFault.NotALiteral place) → Absent Literal bytes.now place }
+    ensures out_of_memory { IsErrOf result LiteralFault.OutOfMemory →
+        (size : ℕ) × Longest Literal bytes.now size }
 {
     let size = literal_skip(bytes).map_err(LiteralFault::NotALiteral)?;
     let cell = cell_of(alloc, &bytes[..size]).map_err(|_| LiteralFault::OutOfMemory)?;

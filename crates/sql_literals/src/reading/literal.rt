@@ -2,6 +2,7 @@
 ghost use Rattle.grammar.specs.Language.{Reads};
 ghost use Rattle.sql_cells.specs.Spelling.{Null, Literal};
 
+use crate::reading::converted::read_converted;
 use crate::reading::hexadecimal::read_hexadecimal;
 use crate::reading::number::read_number;
 use crate::reading::text::read_text;
@@ -26,6 +27,7 @@ pub fn read_literal(bytes: &[u8]) -> Result<usize, usize>
         b'N' => read_null(bytes),
         b'\'' => read_text(bytes),
         b'X' => read_hexadecimal(bytes),
+        b'C' => read_converted(bytes),
         _ => read_number(bytes),
     }
 }

@@ -3,6 +3,7 @@ ghost use Rattle.grammar.specs.Language.{Longest, Skips, Many};
 ghost use Rattle.sql_cells.specs.Number.{Fraction, Number};
 ghost use Rattle.sql_cells.specs.Spelling.{Quoted, Text, Literal};
 
+use crate::reading::converted::read_converted;
 use crate::reading::hexadecimal::read_hexadecimal;
 use crate::reading::literal::read_null;
 use crate::reading::number::{read_point, read_whole};
@@ -55,6 +56,7 @@ pub fn literal_skip(bytes: &[u8]) -> Result<usize, usize>
         b'N' => read_null(bytes),
         b'\'' => skip_text(bytes),
         b'X' => read_hexadecimal(bytes),
+        b'C' => read_converted(bytes),
         _ => skip_number(bytes),
     }
 }
