@@ -4,7 +4,7 @@ use Rattle.std.specs.Option.{option_map, option_or, option_and_then}
 use Rattle.object_forms.specs.Token.{Token, is_word, is_mark, past_gaps, tokens}
 use Rattle.object_forms.specs.Token.Token.{word, quoted_name}
 use Rattle.object_forms.specs.declared.kind.Kind.{Kind}
-use Rattle.object_forms.specs.declared.kind.Kind.TheVariants.{Schema, Table, Procedure, Function, View, Trigger}
+use Rattle.object_forms.specs.declared.kind.Kind.TheVariants.{Schema, Table, Procedure, Function, View, Trigger, Event}
 
 -- a name, and the schema that was named with it, both as they are spelled, without backquotes
 pub record Path : Type 0 where
@@ -25,7 +25,8 @@ kind_of token =
     else (if is_word (codes "function") token then Some Function
     else (if is_word (codes "view") token then Some View
     else (if is_word (codes "trigger") token then Some Trigger
-    else None)))))
+    else (if is_word (codes "event") token then Some Event
+    else None))))))
 
 -- the first word that says a kind
 abbrev pub kind_in : List Token → Option (Found Kind)
@@ -103,12 +104,22 @@ after_on [] = None
 after_on (token ∷ rest) = if is_word (codes "on") token then Some rest else after_on rest
 
 abbrev pub is_trigger : Kind → Bool
+is_trigger Schema = false
+is_trigger Table = false
+is_trigger Procedure = false
+is_trigger Function = false
+is_trigger View = false
 is_trigger Trigger = true
-is_trigger kind = false
+is_trigger Event = false
 
 abbrev pub is_table : Kind → Bool
+is_table Schema = false
 is_table Table = true
-is_table kind = false
+is_table Procedure = false
+is_table Function = false
+is_table View = false
+is_table Trigger = false
+is_table Event = false
 
 -- the table of a trigger's text: the one named after the first word ON after the head
 abbrev pub table_of : Found Making → Option Path

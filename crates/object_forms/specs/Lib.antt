@@ -1,3 +1,4 @@
 pub mod Head
+pub mod Place
 pub mod Shape
 pub mod Token

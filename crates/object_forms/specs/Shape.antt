@@ -145,6 +145,35 @@ primary (item ∷ items) = option_or (key_parts item) (primary items)
 abbrev pub key_of : List (List Token) → List Column → Option ℕ
 key_of items columns = option_and_then (λ name. position (is_key name) columns) (option_and_then only_name (primary items))
 
+-- a part that is a name between backquotes and nothing else
+abbrev pub bare_at : List Token → Option (List ℕ)
+bare_at (quoted_name bytes ∷ rest) = if is_ended (past_gaps rest) then Some (name_value bytes) else None
+bare_at tokens = None
+
+abbrev pub bare_name : List Token → Option (List ℕ)
+bare_name part = bare_at (past_gaps part)
+
+-- the index among the columns of the first one with that name
+abbrev pub column_index : List Column → List ℕ → Option ℕ
+column_index columns name = position (λ column. bytes_eq column.name name) columns
+
+-- the index of the column that a part names
+abbrev pub part_index : List Column → List Token → Option ℕ
+part_index columns part = option_and_then (column_index columns) (bare_name part)
+
+-- one more index in front
+abbrev pub onto_indices : Option ℕ → Option (List ℕ) → Option (List ℕ)
+onto_indices index indices = option_and_then (λ first. option_map (λ others. first ∷ others) indices) index
+
+-- the indices of the columns that the parts name, in their order, where each names one
+abbrev pub part_indices : List Column → List (List Token) → Option (List ℕ)
+part_indices columns [] = Some []
+part_indices columns (part ∷ rest) = onto_indices (part_index columns part) (part_indices columns rest)
+
+-- Which columns are the key: those that PRIMARY KEY names, where each of its parts is a bare name of a column.
+abbrev pub key_columns_of : List (List Token) → List Column → Option (List ℕ)
+key_columns_of items columns = option_and_then (part_indices columns) (primary items)
+
 -- the word after `WORD=` at the front
 abbrev pub option_at : List ℕ → List Token → Option (List Token)
 option_at lower tokens = option_and_then (after (is_mark 61)) (after (is_word lower) tokens)
@@ -162,10 +191,11 @@ abbrev pub engine_in : List Token → Option (List ℕ)
 engine_in [] = None
 engine_in (token ∷ rest) = option_or (engine_at (token ∷ rest)) (engine_in rest)
 
--- a table's columns as they are told, its key and its engine
+-- a table's columns as they are told, its key, the columns of PRIMARY KEY, and its engine
 pub record TableShape : Type 0 where
   pub columns : List ColumnItem
   pub key : Option ℕ
+  pub key_columns : Option (List ℕ)
   pub engine : List ℕ
   pub after : List Token
 
@@ -179,7 +209,13 @@ plain_shape shape = record { columns = map (λ column_item. column_item.column) 
 abbrev pub shape_of_items : List (List Token) → List ColumnItem → List Token → Option TableShape
 shape_of_items items columns after =
     if columns_are (map (λ column_item. column_item.column) columns)
-    then option_map (λ engine. record { columns = columns; key = key_of items (map (λ column_item. column_item.column) columns); engine = engine; after = after }) (engine_in after)
+    then option_map (λ engine. record {
+      columns = columns;
+      key = key_of items (map (λ column_item. column_item.column) columns);
+      key_columns = key_columns_of items (map (λ column_item. column_item.column) columns);
+      engine = engine;
+      after = after;
+    }) (engine_in after)
     else None
 
 abbrev pub shape_in : Enclosed → Option TableShape
@@ -192,6 +228,10 @@ items_after found = if is_table found.value.kind then enclosed_in found.rest els
 -- The shape of a table's text: the items in the parenthesis after its head, and the engine after that.
 abbrev pub shape : List ℕ → Option TableShape
 shape text = option_and_then shape_in (option_and_then items_after (head text))
+
+-- The indices among the shape's columns, in the key's order, that the first item PRIMARY KEY (..) of a table's text names; none where a part is more than a bare name of a column.
+abbrev pub key_columns : List ℕ → Option (List ℕ)
+key_columns text = option_and_then (λ shape. shape.key_columns) (shape text)
 
 -- the number that digits at the front of a word spell
 abbrev pub leading_number : List ℕ → ℕ

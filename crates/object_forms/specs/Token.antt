@@ -97,6 +97,11 @@ tokens_within (suc n) (byte ∷ bytes) = (first_token (byte ∷ bytes)).token �
 unfoldable pub tokens : List ℕ → List Token
 tokens bytes = tokens_within (length bytes) bytes
 
+-- what is left after so many tokens
+abbrev pub left_after : ℕ → List ℕ → List ℕ
+left_after zero bytes = bytes
+left_after (suc n) bytes = left_after n (drop (first_token bytes).size bytes)
+
 -- whether a token is that word, which is given in lower case, in any case
 abbrev pub is_word : List ℕ → Token → Bool
 is_word lower (word bytes) = bytes_eq (map to_ascii_lowercase bytes) lower

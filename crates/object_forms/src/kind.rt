@@ -1,4 +1,4 @@
-// Kinds of objects.
+//! Kinds of objects.
 /// What kind of object a text makes.
 #[derive(Clone, Copy, Debug, PartialEq, Eq)]
 pub enum Kind {
@@ -8,4 +8,5 @@ pub enum Kind {
     Function,
     View,
     Trigger,
+    Event,
 }

@@ -1,9 +1,12 @@
-//! What the texts that SHOW CREATE gives say, as definitions: tokens, heads, the shapes and the counters of
-//! tables; and the types of kinds, columns and shapes. `object_texts` reads them.
+//! What the texts that SHOW CREATE gives say, as definitions: tokens, heads and where their names stand, the
+//! shapes, the keys and the counters of tables; and the types of kinds, places, columns and shapes.
+//! `object_texts` reads them.
 #![tactic(auto)]
 
 mod kind;
+mod place;
 mod shape;
 
 pub use kind::Kind;
-pub use shape::{Column, ColumnList, Shape};
+pub use place::Span;
+pub use shape::{Column, ColumnList, IndexList, Shape};

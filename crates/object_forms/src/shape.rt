@@ -1,4 +1,4 @@
-// Columns and shapes of tables.
+//! Columns and shapes of tables.
 ghost use Rattle.std.specs.Prelude.{◌≡◌, IfOk};
 
 use plain_data::{Bytes, Name, OutOfMemory, Plain, PlainList};
@@ -39,6 +39,9 @@ impl Plain for Column {
 
 /// A list of columns.
 pub type ColumnList = PlainList<Column>;
+
+/// A list of indices of columns among a table's columns.
+pub type IndexList = PlainList<u32>;
 
 /// A table's columns, its key and its engine.
 #[derive(Debug, Drop)]

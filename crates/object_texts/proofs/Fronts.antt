@@ -1,12 +1,14 @@
 -- Texts that begin alike: their tokens are those of the front that they share, and then their own.
-use Rattle.std.proofs.Common.{◌≡◌, ℕ, suc, zero, ◌+◌, ◌-◌, ◌<◌, ◌≤◌, Bool, true, false, List, [], ◌∷◌, ◌++◌, length, take, drop, inl, inr, refl, sym, ◌∙◌, ap, subst, arith, append-nil, length-drop, length-take-le}
+use Rattle.std.proofs.Common.{◌≡◌, ℕ, suc, zero, ◌+◌, ◌-◌, ◌<◌, ◌≤◌, ◌⊎◌, Bool, true, false, List, [], ◌∷◌, ◌++◌, length, take, drop, inl, inr, refl, sym, ◌∙◌, ap, subst, ⊎_elim, arith, append-nil, drop_of_length-le, length-drop, length-take-le}
 use Rattle.std.specs.List.{list_all}
+use Rattle.std.proofs.lemmas.Bool.{cases_lt}
 use Rattle.std.proofs.lemmas.List.{drop-append-le, drop-take}
-use Rattle.object_texts.specs.Left.{IsLeft, left_after}
+use Rattle.object_forms.specs.Token.{left_after}
+use Rattle.object_texts.specs.Left.{IsLeft}
 use Rattle.object_forms.specs.Token.{Lexeme, Token, first_token, tokens}
 use Rattle.object_forms.specs.Token.Token.{unended}
 use Rattle.object_texts.proofs.Cuts.{first_token-take, parted, tokens-first, tokens-front}
-use Rattle.object_texts.proofs.Longer.{IsBreak, first_token-longer}
+use Rattle.object_texts.proofs.Longer.{IsBreak, Stops, break-stops, first_token-longer}
 use Rattle.object_texts.proofs.Tokens.{first_token-fits, tokens-cons, tokens-nil}
 use Rattle.object_texts.proofs.Utf8.{both_true}
 
@@ -26,7 +28,7 @@ ended-not token e same = cc (ap is_ended same)
 
 pub first_token-break : (bytes : List ℕ) (byte : ℕ) (rest : List ℕ) → IsBreak byte → 1 ≤ (first_token bytes).size → is_ended (first_token bytes).token ≡ true → first_token (bytes ++ (byte ∷ rest)) ≡ first_token bytes
 first_token-break [] byte rest breaks some ended = absurd (omega arith)
-first_token-break (first ∷ bytes) byte rest breaks some ended = first_token-longer first bytes byte rest (inr (breaks, ended-not (first_token (first ∷ bytes)).token ended))
+first_token-break (first ∷ bytes) byte rest breaks some ended = first_token-longer first bytes byte rest (inr (break-stops byte (first_token (first ∷ bytes)).token breaks (ended-not (first_token (first ∷ bytes)).token ended)))
 
 -- the tokens of a text whose first token is that of another
 pub tokens-alike : (text other rest : List ℕ) → first_token text ≡ first_token other → 1 ≤ (first_token other).size → drop (first_token other).size text ≡ rest → tokens text ≡ (first_token other).token ∷ tokens rest
@@ -53,6 +55,38 @@ tokens-break-within (suc n) (first ∷ bytes) byte rest within breaks ended =
 
 pub tokens-break : (text : List ℕ) (byte : ℕ) (rest : List ℕ) → IsBreak byte → list_all is_ended (tokens text) ≡ true → tokens (text ++ (byte ∷ rest)) ≡ tokens text ++ tokens (byte ∷ rest)
 tokens-break text byte rest breaks ended = tokens-break-within (length text) text byte rest (omega arith) breaks ended
+
+-- the last of some tokens doesn't go on with that byte
+abbrev pub LastStops : ℕ → List Token → Type 0
+LastStops byte [] = Unit {0}
+LastStops byte (token ∷ []) = Stops byte token
+LastStops byte (token ∷ next ∷ all) = LastStops byte (next ∷ all)
+
+last-of : (byte : ℕ) (token : Token) (all : List Token) → LastStops byte (token ∷ all) → LastStops byte all
+last-of byte token [] stops = tt
+last-of byte token (next ∷ all) stops = stops
+
+-- a text whose last token doesn't go on with the byte that follows
+tokens-joined-within : (n : ℕ) (text : List ℕ) (byte : ℕ) (rest : List ℕ) → length text ≤ n → LastStops byte (tokens text) → tokens (text ++ (byte ∷ rest)) ≡ tokens text ++ tokens (byte ∷ rest)
+tokens-joined-within n [] byte rest within stops = rw tokens-nil refl
+tokens-joined-within zero (first ∷ bytes) byte rest within stops = absurd (omega arith)
+tokens-joined-within (suc n) (first ∷ bytes) byte rest within stops =
+    let text = first ∷ bytes in
+    let found = first_token text in
+    let fits = first_token-fits first bytes in
+    let after = drop found.size text in
+    let whole = tokens-cons first bytes in
+    let last : LastStops byte (found.token ∷ tokens after) = subst (LastStops byte) whole stops in
+    let alone : length text ≤ found.size → Stops byte found.token = λ all. subst (λ (others : List Token). LastStops byte (found.token ∷ others)) (ap tokens (drop_of_length-le text all) ∙ tokens-nil) last in
+    let apart : (found.size < length text) ⊎ Stops byte found.token = ⊎_elim (λ below. inl below) (λ all. inr (alone all)) (cases_lt found.size (length text)) in
+    let same = first_token-longer first bytes byte rest apart in
+    let left : drop found.size (text ++ (byte ∷ rest)) ≡ after ++ (byte ∷ rest) = drop-append-le found.size text (byte ∷ rest) fits.within in
+    tokens-alike (text ++ (byte ∷ rest)) text (after ++ (byte ∷ rest)) same fits.some left
+    ∙ ap (λ (others : List Token). found.token ∷ others) (tokens-joined-within n after byte rest (omega (arith, length-drop found.size text, fits.some)) (last-of byte found.token (tokens after) last))
+    ∙ ap (λ (all : List Token). all ++ tokens (byte ∷ rest)) (sym whole)
+
+pub tokens-joined : (text : List ℕ) (byte : ℕ) (rest : List ℕ) → LastStops byte (tokens text) → tokens (text ++ (byte ∷ rest)) ≡ tokens text ++ tokens (byte ∷ rest)
+tokens-joined text byte rest stops = tokens-joined-within (length text) text byte rest (omega arith) stops
 
 -- a text that goes on otherwise after a byte that follows some of its tokens
 alike-after : (count : ℕ) (text : List ℕ) (n : ℕ) (more : List ℕ) → length text - length (left_after count text) < n → n ≤ length text → tokens (take n text ++ more) ≡ tokens (take (length text - length (left_after count text)) text) ++ tokens (take (n - (length text - length (left_after count text))) (left_after count text) ++ more)

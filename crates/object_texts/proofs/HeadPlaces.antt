@@ -4,7 +4,8 @@ use Rattle.std.proofs.lemmas.List.{append_cancel_right}
 use Rattle.grammar.specs.Language.{Begins, Refused}
 use Rattle.object_forms.specs.declared.kind.Kind.{Kind}
 use Rattle.object_forms.specs.Head.{HasHead, after, head, head_in, kind_in, name_at}
-use Rattle.object_texts.specs.Left.{IsLeft, left_after}
+use Rattle.object_forms.specs.Token.{left_after}
+use Rattle.object_texts.specs.Left.{IsLeft}
 use Rattle.object_forms.specs.Token.{Token, first_token, is_gap, is_word, past_gaps, tokens}
 use Rattle.object_texts.proofs.Closers.{ends-last}
 use Rattle.object_texts.proofs.Cuts.{left-all, left-read, parted}

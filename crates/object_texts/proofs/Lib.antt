@@ -14,3 +14,7 @@ pub mod Agreements
 pub mod HeadPlaces
 pub mod HeadRefusals
 pub mod Uncreated
+pub mod NameSteps
+pub mod NamePlaces
+pub mod Renamings
+pub mod Lefts

@@ -1,14 +1,9 @@
 -- What is left of a text after some of its tokens.
-use Rattle.std.specs.Prelude.{◌≡◌, ℕ, zero, suc, ◌==◌, ◌||◌, if◌then◌else◌, List, [], ◌∷◌, drop, length, slice_index, Option, Some, None}
+use Rattle.std.specs.Prelude.{◌≡◌, ℕ, ◌==◌, ◌||◌, if◌then◌else◌, List, [], ◌∷◌, length, slice_index, Option, Some, None}
 use Rattle.std.specs.Char.{to_ascii_lowercase}
 use Rattle.std.specs.List.{common_prefix_len}
-use Rattle.object_forms.specs.Token.{Token, first_token, tokens}
+use Rattle.object_forms.specs.Token.{Token, left_after, tokens}
 use Rattle.object_forms.specs.Token.Token.{word, quoted_name, mark, unended}
-
--- what is left after so many tokens
-abbrev pub left_after : ℕ → List ℕ → List ℕ
-left_after zero bytes = bytes
-left_after (suc n) bytes = left_after n (drop (first_token bytes).size bytes)
 
 -- the rest of a text is what is left after some of its tokens
 pub record IsLeft (text rest : List ℕ) : Type 0 where

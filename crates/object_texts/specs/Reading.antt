@@ -15,7 +15,7 @@ use Rattle.object_texts.specs.declared.column.Declared as read_column
 use Rattle.object_texts.specs.declared.table.Table as read_table
 use Rattle.object_texts.specs.declared.counter.Counter as read_counter
 use Rattle.object_forms.specs.declared.shape.Column.{Column}
-use Rattle.object_forms.specs.Shape.{Enclosed, TableCounter, TableShape, ColumnItem, column_of, is_auto, key_of, parts, column_item, type_named}
+use Rattle.object_forms.specs.Shape.{Enclosed, TableCounter, TableShape, ColumnItem, column_of, is_auto, key_columns_of, key_of, parts, column_item, type_named}
 
 abbrev pub token_of : read.Token → Token
 token_of (Word bytes) = word bytes.now
@@ -92,11 +92,12 @@ columns_of (Some column_item) = column_item.column ∷ []
 abbrev pub names_are : List Column → Bool
 names_are columns = list_all (λ column. is_utf8 column.name) columns
 
--- the shape of a table whose items, engine and rest were found, with its columns and its key
+-- the shape of a table whose items, engine and rest were found, with its columns, its key and those of PRIMARY KEY
 abbrev pub table_of : read_table.Table → TableShape
 table_of table = record {
   columns = column_items table.items.now;
   key = key_of (parts 0 (tokens table.items.now)) (columns_in table.items.now);
+  key_columns = key_columns_of (parts 0 (tokens table.items.now)) (columns_in table.items.now);
   engine = table.engine.now;
   after = tokens table.after.now;
 }

@@ -1,4 +1,4 @@
-// Where a text leaves the texts with heads.
+//! Where a text leaves the texts with heads.
 ghost use Rattle.std.specs.Prelude.{◌≡◌, ◌≤◌, length, IfSome, MatchResult};
 ghost use Rattle.grammar.specs.Language.{Refused};
 ghost use Rattle.object_forms.specs.Head.{HasHead};

@@ -1,4 +1,4 @@
-// The item of a column: its name, its type and what is said after it.
+//! The item of a column: its name, its type and what is said after it.
 ghost use Rattle.std.specs.Prelude.{◌≡◌, ◌++◌, [], ◌∷◌, true, false, map, option_map, IfOk, MatchOption};
 ghost use Rattle.std.specs.List.{take_while};
 ghost use Rattle.std.specs.Str.{is_utf8};

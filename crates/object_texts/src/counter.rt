@@ -1,4 +1,4 @@
-// The counter of a table: the column with AUTO_INCREMENT, and the number that comes next.
+//! The counter of a table: the column with AUTO_INCREMENT, and the number that comes next.
 ghost use Rattle.std.specs.Prelude.{◌≡◌, ◌<◌, ◌+◌, ◌-◌, ◌*◌, ◌^◌, length, min, position, option_map, IfSome};
 ghost use Rattle.std.specs.List.{fold, take_while};
 ghost use Rattle.object_forms.specs.Shape.{column_of, counter, counter_at, counter_found, counter_in, is_auto, is_digit};

@@ -1,4 +1,4 @@
-// Which object a text makes: its kind and its name.
+//! Which object a text makes: its kind and its name.
 ghost use Rattle.std.specs.Prelude.{◌≡◌, option_map, option_copied, option_and_then, IfSome};
 ghost use Rattle.std.specs.Option.{option_or};
 ghost use Rattle.object_forms.specs.Head.{after_exists, after_on, dotted_name, head, kind_in, kind_of, making, name_in, name_of, path_in, trigger_table};
@@ -41,6 +41,8 @@ fn kind_of(token: Token<'_>) -> Option<Kind>
         Some(Kind::View)
     } else if token.is_word(b"trigger") {
         Some(Kind::Trigger)
+    } else if token.is_word(b"event") {
+        Some(Kind::Event)
     } else {
         None
     }
@@ -151,9 +153,10 @@ pub(crate) fn head_in(text: &[u8]) -> Option<(Head<'_>, &[u8])>
 }
 
 /// What a text makes; `None` where it has no head. A head is the word CREATE, then any tokens up to
-/// the first word that says a kind (DATABASE, TABLE, PROCEDURE, FUNCTION, VIEW or TRIGGER), that
-/// word, and a name, which may stand after IF NOT EXISTS and after the name of a schema and a dot.
-/// Takes no memory. (MySQL 8.0 Reference Manual, 15.1.12, 15.1.17, 15.1.20, 15.1.22, 15.1.23.)
+/// the first word that says a kind (DATABASE, TABLE, PROCEDURE, FUNCTION, VIEW, TRIGGER or EVENT),
+/// that word, and a name, which may stand after IF NOT EXISTS and after the name of a schema and a
+/// dot. Takes no memory. (MySQL 8.0 Reference Manual, 15.1.12, 15.1.13, 15.1.17, 15.1.20, 15.1.22,
+/// 15.1.23.)
 pub fn head_of(text: &[u8]) -> Option<Head<'_>>
     ensures { option_map making_of result ≡ making text.now }
 {

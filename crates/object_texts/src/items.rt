@@ -1,4 +1,4 @@
-// Parentheses, and the parts of what stands in them.
+//! Parentheses, and the parts of what stands in them.
 ghost use Rattle.std.specs.Prelude.{◌≡◌, ◌==◌, ◌&&◌, ◌<◌, length, option_map, IfSome};
 ghost use Rattle.object_forms.specs.Shape.{enclosed_in, parts, up_to};
 ghost use Rattle.object_texts.specs.Reading.{enclosed_texts, token_of, with_parts};

@@ -1,7 +1,7 @@
-// The item PRIMARY KEY, and the column that is the key.
+//! The item PRIMARY KEY, the column that is the key, and the columns that it names.
 ghost use Rattle.std.specs.Prelude.{◌≡◌, ◌<◌, ◌^◌, length, position, option_map, option_and_then, IfOk, IfSome};
 ghost use Rattle.std.specs.List.{list_all};
-ghost use Rattle.object_forms.specs.Shape.{after_length, after_primary, is_digit, is_ended, is_integer, is_key, is_number, key_of, key_parts, only_name, part_name, parts, past_direction, primary, name_value};
+ghost use Rattle.object_forms.specs.Shape.{after_length, after_primary, bare_name, column_index, is_digit, is_ended, is_integer, is_key, is_number, key_columns_of, key_of, key_parts, only_name, part_index, part_indices, part_name, parts, past_direction, primary, name_value};
 ghost use Rattle.object_texts.specs.Reading.{token_of};
 ghost use Rattle.object_forms.specs.Token.{past_gaps, tokens};
 
@@ -10,7 +10,7 @@ use crate::items::{enclosed_in, next_part};
 use crate::token::{
     Token, after_front_word, after_mark, after_word, next_token, past_gaps, past_spaces,
 };
-use object_forms::Column;
+use object_forms::{Column, IndexList};
 use plain_data::OutOfMemory;
 use std::alloc::Global;
 
@@ -177,4 +177,83 @@ pub(crate) fn key_of(
     };
     let name = undoubled(alloc, name)?;
     Ok(key_place(name.as_slice(), columns))
+}
+
+// The name of a part that is nothing else, as it is spelled between backquotes.
+fn bare_name(part: &[u8]) -> Option<&[u8]>
+    ensures { option_map (λ name. name_value name.now) result ≡ bare_name (tokens part.now) }
+{
+    let (Token::QuotedName(name), rest) = next_token(past_gaps(part))? else {
+        return None;
+    };
+    is_ended(rest).then_some(name)
+}
+
+// The first column with that name.
+fn column_index(name: &[u8], columns: &[Column]) -> Option<usize>
+    ensures place { result ≡ column_index columns.now name.now }
+    ensures within { IfSome result (λ place. place < length columns.now) }
+{
+    columns
+        .iter()
+        .position(|column| column.name.as_slice() == name)
+}
+
+fn column_place(name: &[u8], columns: &[Column]) -> Option<u32>
+    requires { length columns.now < 2 ^ 32 }
+    ensures { result ≡ column_index columns.now name.now }
+{
+    let place = column_index(name, columns)?;
+    Some(place as u32)
+}
+
+// The index of the column that a part names.
+fn part_index(alloc: Global, part: &[u8], columns: &[Column]) -> Result<Option<u32>, OutOfMemory>
+    requires { length columns.now < 2 ^ 32 }
+    ensures { IfOk result (λ index. index ≡ part_index columns.now (tokens part.now)) }
+{
+    let Some(name) = bare_name(part) else {
+        return Ok(None);
+    };
+    let name = undoubled(alloc, name)?;
+    Ok(column_place(name.as_slice(), columns))
+}
+
+// The indices of the columns that the parts name, where each names one.
+fn part_indices(
+    alloc: Global,
+    inner: &[u8],
+    columns: &[Column],
+) -> Result<Option<IndexList>, OutOfMemory>
+    requires { length columns.now < 2 ^ 32 }
+    ensures { IfOk result (λ made. made ≡ part_indices columns.now (parts 0 (tokens inner.now))) }
+{
+    let mut made = IndexList::new(alloc);
+    let mut rest = inner;
+    'parts: loop {
+        let (part, left) = next_part(rest);
+        let Some(index) = part_index(alloc, part, columns)? else {
+            return Ok(None);
+        };
+        made.push(index)?;
+        let Some(after) = left else {
+            return Ok(Some(made));
+        };
+        rest = after;
+    }
+}
+
+// Which columns are the key.
+pub(crate) fn key_columns_of(
+    alloc: Global,
+    items: &[u8],
+    columns: &[Column],
+) -> Result<Option<IndexList>, OutOfMemory>
+    requires { length columns.now < 2 ^ 32 }
+    ensures { IfOk result (λ key. key ≡ key_columns_of (parts 0 (tokens items.now)) columns.now) }
+{
+    let Some(inner) = primary(items) else {
+        return Ok(None);
+    };
+    part_indices(alloc, inner, columns)
 }

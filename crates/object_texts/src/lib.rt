@@ -1,5 +1,5 @@
-//! The texts that SHOW CREATE gives: which object each makes, and of a table the columns, the key,
-//! the engine and the counter, by its tokens.
+//! The texts that SHOW CREATE gives: which object each makes and where its name stands, and of a
+//! table the columns, the key, the engine and the counter, by its tokens.
 #![tactic(auto)]
 
 mod check;
@@ -8,6 +8,7 @@ mod counter;
 mod head;
 mod items;
 mod key;
+mod place;
 mod shape;
 mod table;
 mod token;
@@ -15,5 +16,6 @@ mod token;
 pub use check::check_head;
 pub use counter::{Counter, counter_of};
 pub use head::{Head, head_of, trigger_table};
-pub use object_forms::{Column, ColumnList, Kind, Shape};
-pub use shape::shape_of;
+pub use object_forms::{Column, ColumnList, IndexList, Kind, Shape, Span};
+pub use place::{name_span, names_are_replaced, names_stand, quoted_names_end};
+pub use shape::{key_columns, shape_of};

@@ -1,11 +1,11 @@
-// The shape of a table: its columns, its key and its engine.
+//! The shape of a table: its columns, its key and its engine; and the columns of its PRIMARY KEY.
 ghost use Rattle.std.specs.Prelude.{◌≡◌, option_map, IfOk};
-ghost use Rattle.object_forms.specs.Shape.{plain_shape, shape};
+ghost use Rattle.object_forms.specs.Shape.{key_columns, plain_shape, shape};
 
 use crate::column::columns_in;
-use crate::key::key_of;
+use crate::key::{key_columns_of, key_of};
 use crate::table::table_in;
-use object_forms::Shape;
+use object_forms::{IndexList, Shape};
 use plain_data::{Bytes, OutOfMemory};
 use std::alloc::Global;
 
@@ -29,4 +29,22 @@ pub fn shape_of(alloc: Global, text: &[u8]) -> Result<Option<Shape>, OutOfMemory
         key,
         engine,
     }))
+}
+
+/// Which columns are the key of a table: the indices among its shape's columns, in the key's order,
+/// that the first item `PRIMARY KEY (..)` names. `None` where the text has no shape, where it has no
+/// such item, and where a part of that item is anything but the name of a column between backquotes:
+/// a name with a length, ASC or DESC, an expression, or the name of no column. White space and
+/// comments around a part are passed over. It is refused only for want of memory. (MySQL 8.0
+/// Reference Manual, 15.1.20.)
+pub fn key_columns(alloc: Global, text: &[u8]) -> Result<Option<IndexList>, OutOfMemory>
+    ensures { IfOk result (λ found. found ≡ key_columns text.now) }
+{
+    let Some(table) = table_in(text) else {
+        return Ok(None);
+    };
+    let Some(columns) = columns_in(alloc, table.items)? else {
+        return Ok(None);
+    };
+    key_columns_of(alloc, table.items, columns.as_slice())
 }

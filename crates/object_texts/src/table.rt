@@ -1,4 +1,4 @@
-// A table's text: its items, its engine and what stands after its parenthesis.
+//! A table's text: its items, its engine and what stands after its parenthesis.
 ghost use Rattle.std.specs.Prelude.{◌≡◌, ◌≤◌, IfSome, length, option_map, option_and_then};
 ghost use Rattle.std.specs.Str.{is_utf8};
 ghost use Rattle.object_forms.specs.Head.{head};

@@ -1,4 +1,4 @@
-// Tokens, read one after another from the front of a text.
+//! Tokens, read one after another from the front of a text.
 ghost use Rattle.std.specs.Prelude.{◌≡◌, ◌≢◌, ◌<◌, ◌≤◌, ◌+◌, ◌^◌, ◌↔◌, IsTrue, [], ◌∷◌, length, drop, map, slice_index, IfSome, MatchOption, option_map};
 ghost use Rattle.std.specs.Char.{to_ascii_lowercase};
 ghost use Rattle.std.specs.List.{prefix_len};
@@ -191,6 +191,25 @@ fn first_token(text: &[u8]) -> Option<Lexeme<'_>>
         size: 1,
         token: Token::Mark(byte),
     })
+}
+
+// How many bytes the first token of a text has; none where the text is empty.
+#[tactic(auto, using(crate::proofs::Lefts::lefts))]
+pub(crate) fn token_size(text: &[u8]) -> usize
+    ensures size { result ≡ (first_token text.now).size }
+    ensures within { result ≤ length text.now }
+{
+    match first_token(text) {
+        Some(found) => found.size,
+        None => 0,
+    }
+}
+
+// What stands after the first token.
+pub(crate) fn past_token(text: &[u8]) -> &[u8]
+    ensures { result.now ≡ drop (first_token text.now).size text.now }
+{
+    text.split_at(token_size(text)).1
 }
 
 // The first token of a text, and what stands after it.

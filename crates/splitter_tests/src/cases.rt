@@ -1,4 +1,4 @@
-// A file of cases.
+//! A file of cases.
 use crate::places::{long_place, places_anywhere};
 use crate::whole_files::texts_anywhere;
 use crate::words::{Stopped, first_and_rest, text_of};

@@ -1,4 +1,4 @@
-// Where the statements of a file begin, which of them are too long, and whether the file may end.
+//! Where the statements of a file begin, which of them are too long, and whether the file may end.
 ghost use Rattle.std.specs.Prelude.{◌≡◌, ◌+◌, ◌<◌, ◌≤◌, ◌^◌, length, IfOk};
 
 use crate::words::{Stopped, add_bytes, add_text, bytes_of, number_and_rest, text_of};

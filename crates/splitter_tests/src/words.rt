@@ -1,4 +1,4 @@
-// The words of cases: numbers, and bytes in percent-encoding.
+//! The words of cases: numbers, and bytes in percent-encoding.
 use percent_encoding::{CONTROLS, percent_decode, percent_encode};
 use plain_data::OutOfMemory;
 use statement_splitter::SplitFault;

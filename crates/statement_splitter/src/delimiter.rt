@@ -1,4 +1,4 @@
-// What ends a statement.
+//! What ends a statement.
 
 /// What ends a statement.
 #[derive(Clone, Copy)]

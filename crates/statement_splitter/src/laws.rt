@@ -1,4 +1,4 @@
-// Laws of the calls of a splitter, and of whole files.
+//! Laws of the calls of a splitter, and of whole files.
 ghost use Rattle.std.specs.Prelude.{◌≡◌, codes, Some, None, [], ◌∷◌};
 ghost use Rattle.statement_splitter.specs.Laws.{AGivenPieceIsTheFirst, NoneIsLost, TooLongStaysSo};
 ghost use Rattle.statement_splitter.specs.Pieces.{pieces, unread_file, begun, last};

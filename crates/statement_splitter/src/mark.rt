@@ -1,4 +1,4 @@
-// Where a mark stands: a byte, so many dollars, a byte.
+//! Where a mark stands: a byte, so many dollars, a byte.
 ghost use Rattle.std.specs.Prelude.{◌≡◌, ◌≢◌, ◌≤◌, length, ◌∷◌, [], ◌++◌, replicate};
 ghost use Rattle.statement_splitter.specs.State.{SearchesMark, Compares, dollar_mark};
 ghost use Rattle.statement_splitter.specs.Pieces.{mark_of};

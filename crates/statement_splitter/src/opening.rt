@@ -1,4 +1,4 @@
-// What begins between statements.
+//! What begins between statements.
 ghost use Rattle.std.specs.Prelude.{◌≡◌, ◌≤◌, length};
 ghost use Rattle.std.specs.List.{prefix_len};
 ghost use Rattle.statement_splitter.specs.Pieces.{begins, is_front_of, is_dollar, delimiter_line, line_opening, dash_opening, slash_opening, opening};

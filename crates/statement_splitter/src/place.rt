@@ -1,4 +1,4 @@
-// Where a splitter is in the bytes that it holds.
+//! Where a splitter is in the bytes that it holds.
 ghost use Rattle.std.specs.Prelude.{◌≡◌, ◌+◌, ◌≤◌, ◌<◌, ◌^◌, length, Some};
 ghost use Rattle.statement_splitter.specs.Scan.{end_size, is_line};
 ghost use Rattle.statement_splitter.specs.Pieces.{mark_of, begun, last};

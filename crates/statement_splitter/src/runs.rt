@@ -1,4 +1,4 @@
-// Bytes that stand where those before them stand.
+//! Bytes that stand where those before them stand.
 ghost use Rattle.std.specs.Prelude.{◌≡◌, ◌≤◌, length, drop};
 ghost use Rattle.memchr.specs.Find.{is_byte, is_byte2};
 ghost use Rattle.statement_splitter.specs.State.{Until, PlainRun};

@@ -1,4 +1,4 @@
-// Where a statement ends.
+//! Where a statement ends.
 ghost use Rattle.std.specs.Prelude.{◌≡◌, ◌≤◌, length};
 ghost use Rattle.statement_splitter.specs.State.{SearchesEnd};
 ghost use Rattle.statement_splitter.specs.declared.delimiter.Delimiter.TheVariants.{Semicolon};

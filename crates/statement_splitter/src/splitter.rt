@@ -1,4 +1,4 @@
-// The bytes of a file as they come, and the statements in them.
+//! The bytes of a file as they come, and the statements in them.
 ghost use Rattle.std.specs.Prelude.{◌≡◌, ◌+◌, ◌≤◌, ◌^◌, [], length, drop, vec_len, OnOk, OnErr, MatchResult, None, Some};
 ghost use Rattle.std.specs.Borrow.{sem};
 ghost use Rattle.std.specs.Io.BufRead.{Rests};

@@ -1,4 +1,4 @@
-// Where a byte of a statement stands.
+//! Where a byte of a statement stands.
 ghost use Rattle.std.specs.Prelude.{◌≡◌, ◌==◌, ◌&&◌};
 ghost use Rattle.statement_splitter.specs.Scan.{is_text, after_text, after_byte};
 
