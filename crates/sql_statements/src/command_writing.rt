@@ -1,6 +1,6 @@
-// How commands are written.
-ghost use Rattle.std.specs.Prelude.{◌≡◌, ◌+◌, ◌≤◌, ◌++◌, length, IsOk, OnOk, OnErr};
-ghost use Rattle.sql_statements.specs.Piece.{pieces_text};
+//! How commands are written.
+ghost use Rattle.std.specs.Prelude.{◌≡◌, ◌++◌, OnOk, OnErr};
+ghost use Rattle.sql_statements.specs.Piece.{pieces_text, TakesRoom};
 ghost use Rattle.statement_forms.specs.Statement.{CommandHasText};
 ghost use Rattle.statement_forms.specs.Text.{command_text};
 
@@ -45,6 +45,7 @@ fn command_pieces<'a>(command: &'a Command<'_>) -> [Piece<'a>; 3]
             END,
             END,
         ],
+        Command::TimeZone(value) => [Word(b"SET TIME_ZONE="), Text(value), END],
         Command::LockInstance => [Word(b"LOCK INSTANCE FOR BACKUP"), END, END],
         Command::FlushTables => [Word(b"FLUSH TABLES WITH READ LOCK"), END, END],
         Command::UnlockTables => [Word(b"UNLOCK TABLES"), END, END],
@@ -94,7 +95,7 @@ pub fn command_into(command: &Command<'_>, out: &mut Buffer) -> Result<(), OutOf
     requires { CommandHasText command.now }
     ensures ok { OnOk result (out.new.bytes ≡ out.old.bytes ++ command_text command.now) }
     ensures err { OnErr result (out.new ≡ out.old) }
-    ensures room { length (command_text command.now) ≤ out.old.spare → IsOk result × (out.new.spare + length (command_text command.now) ≡ out.old.spare) }
+    ensures room { TakesRoom result out.old.spare out.new.spare (command_text command.now) }
 {
     pieces_into(&command_pieces(command), out)
 }

@@ -7,4 +7,4 @@ mod query_writing;
 
 pub use command_writing::command_into;
 pub use query_writing::query_into;
-pub use statement_forms::{Command, Form, Part, PartList, Query, Statement, WholeText};
+pub use statement_forms::{Command, Form, NumberRow, Part, PartList, Query, Statement, WholeText};

@@ -1,17 +1,17 @@
-// The pieces of a statement's text: their length, and how they are written.
-ghost use Rattle.std.specs.Prelude.{◌≡◌, ◌+◌, ◌≤◌, ◌^◌, ◌++◌, length, decimal, IsOk, OnOk, OnErr, MatchOption};
+//! The pieces of a statement's text: their length, and how they are written.
+ghost use Rattle.std.specs.Prelude.{◌≡◌, ◌+◌, ◌≤◌, ◌^◌, ◌++◌, length, decimal, OnOk, OnErr};
 ghost use Rattle.std.specs.Fmt.{signed_decimal};
 ghost use Rattle.std.specs.List.{flat_map};
 ghost use Rattle.sql_cells.specs.Literal.{text_literal};
 ghost use Rattle.sql_cells.specs.Name.{quoted_name};
-ghost use Rattle.sql_statements.specs.Piece.{piece_text, pieces_text, later_name};
-ghost use Rattle.statement_forms.specs.Text.{by_key, dotted, key_above, key_from, names, one_after, rows_from};
+ghost use Rattle.sql_statements.specs.Piece.{IsLength, TakesRoom, piece_text, pieces_text, later_name, later_number};
+ghost use Rattle.statement_forms.specs.Text.{by_key, by_keys, dotted, key_above, key_from, name_row, names, number_row, numbers, one_after, rows_from, wide_above, wide_up_to};
 
 use itoa::Buffer as Digits;
 use plain_data::{Buffer, OutOfMemory};
 use sql_cells::CellKind;
 use sql_literals::{cell_into, name_into, name_length, text_length_checked};
-use statement_forms::{Part, PartList, WholeText};
+use statement_forms::{NumberRow, Part, PartList, WholeText};
 
 // The words between the names of queries.
 const SELECT: &[u8] = b"SELECT ";
@@ -21,6 +21,8 @@ const FROM: &[u8] = b" FROM ";
 const WHERE: &[u8] = b" WHERE ";
 
 const ABOVE: &[u8] = b" > ";
+
+const AT_MOST: &[u8] = b" <= ";
 
 const ORDER_BY: &[u8] = b" ORDER BY ";
 
@@ -51,6 +53,12 @@ pub(crate) enum Piece<'a> {
     Above(&'a Part<'a>, &'a i128),
     // The order of a key.
     ByKey(&'a Part<'a>),
+    // The condition that a key of several columns is above a bound.
+    WideAbove(&'a PartList<'a>, &'a NumberRow),
+    // The condition that a key of several columns is at most a bound.
+    WideUpTo(&'a PartList<'a>, &'a NumberRow),
+    // The order of a key of several columns.
+    ByKeys(&'a PartList<'a>),
     // The limit to one row after so many others.
     OneAfter(u64),
 }
@@ -58,7 +66,7 @@ pub(crate) enum Piece<'a> {
 // How many bytes the names after the first have, each after a comma.
 #[tactic(auto, using(crate::proofs::Lengths::later_names_fit))]
 fn later_names_length(names: &[Part<'_>]) -> Option<usize>
-    ensures { MatchOption result (2 ^ 64 ≤ length (flat_map later_name names.now)) (λ n. n ≡ length (flat_map later_name names.now)) }
+    ensures { IsLength result (flat_map later_name names.now) }
 {
     let mut total = 0usize;
     for name in names {
@@ -70,7 +78,7 @@ fn later_names_length(names: &[Part<'_>]) -> Option<usize>
 
 // How many bytes the names have, with commas between them, if that many can be counted.
 fn names_length(parts: &[Part<'_>]) -> Option<usize>
-    ensures { MatchOption result (2 ^ 64 ≤ length (names parts.now)) (λ n. n ≡ length (names parts.now)) }
+    ensures { IsLength result (names parts.now) }
 {
     let Some((first, later)) = parts.split_first() else {
         return Some(0);
@@ -80,7 +88,7 @@ fn names_length(parts: &[Part<'_>]) -> Option<usize>
 
 // How many bytes the schema, the dot and the name have, if that many can be counted.
 fn path_length(schema: &[u8], name: &[u8]) -> Option<usize>
-    ensures { MatchOption result (2 ^ 64 ≤ length (dotted schema.now name.now)) (λ n. n ≡ length (dotted schema.now name.now)) }
+    ensures { IsLength result (dotted schema.now name.now) }
 {
     name_length(schema)?
         .checked_add(1)?
@@ -95,7 +103,7 @@ fn signed_length(number: i128) -> usize
 }
 
 fn rows_from_length(columns: &[Part<'_>], schema: &[u8], table: &[u8]) -> Option<usize>
-    ensures { MatchOption result (2 ^ 64 ≤ length (rows_from columns.now schema.now table.now)) (λ n. n ≡ length (rows_from columns.now schema.now table.now)) }
+    ensures { IsLength result (rows_from columns.now schema.now table.now) }
 {
     names_length(columns)?
         .checked_add(SELECT.len() + FROM.len())?
@@ -103,7 +111,7 @@ fn rows_from_length(columns: &[Part<'_>], schema: &[u8], table: &[u8]) -> Option
 }
 
 fn key_from_length(key: &[u8], schema: &[u8], table: &[u8]) -> Option<usize>
-    ensures { MatchOption result (2 ^ 64 ≤ length (key_from key.now schema.now table.now)) (λ n. n ≡ length (key_from key.now schema.now table.now)) }
+    ensures { IsLength result (key_from key.now schema.now table.now) }
 {
     name_length(key)?
         .checked_add(SELECT.len() + FROM.len())?
@@ -111,15 +119,80 @@ fn key_from_length(key: &[u8], schema: &[u8], table: &[u8]) -> Option<usize>
 }
 
 fn above_length(key: &[u8], bound: i128) -> Option<usize>
-    ensures { MatchOption result (2 ^ 64 ≤ length (key_above key.now bound)) (λ n. n ≡ length (key_above key.now bound)) }
+    ensures { IsLength result (key_above key.now bound) }
 {
     name_length(key)?.checked_add(WHERE.len() + ABOVE.len() + signed_length(bound))
 }
 
 fn by_key_length(key: &[u8]) -> Option<usize>
-    ensures { MatchOption result (2 ^ 64 ≤ length (by_key key.now)) (λ n. n ≡ length (by_key key.now)) }
+    ensures { IsLength result (by_key key.now) }
 {
     name_length(key)?.checked_add(ORDER_BY.len())
+}
+
+// How many bytes a number has after a comma.
+fn later_number_length(number: &i128) -> usize
+    ensures { result ≡ length (later_number number.now) }
+{
+    1 + signed_length(*number)
+}
+
+// How many bytes the numbers after the first have, each after a comma.
+#[tactic(auto, using(crate::proofs::Lengths::later_numbers_fit))]
+fn later_numbers_length(numbers: &[i128]) -> Option<usize>
+    ensures { IsLength result (flat_map later_number numbers.now) }
+{
+    let mut total = 0usize;
+    for number in numbers {
+        total = total.checked_add(later_number_length(number))?;
+    }
+    Some(total)
+}
+
+// How many bytes the numbers have, with commas between them, if that many can be counted.
+fn numbers_length(row: &[i128]) -> Option<usize>
+    ensures { IsLength result (numbers row.now) }
+{
+    let Some((first, later)) = row.split_first() else {
+        return Some(0);
+    };
+    signed_length(*first).checked_add(later_numbers_length(later)?)
+}
+
+// How many bytes the names have in parentheses, if that many can be counted.
+fn name_row_length(keys: &[Part<'_>]) -> Option<usize>
+    ensures { IsLength result (name_row keys.now) }
+{
+    names_length(keys)?.checked_add(2)
+}
+
+// How many bytes the numbers have in parentheses, if that many can be counted.
+fn number_row_length(row: &[i128]) -> Option<usize>
+    ensures { IsLength result (number_row row.now) }
+{
+    numbers_length(row)?.checked_add(2)
+}
+
+fn wide_above_length(keys: &[Part<'_>], bound: &[i128]) -> Option<usize>
+    ensures { IsLength result (wide_above keys.now bound.now) }
+{
+    name_row_length(keys)?
+        .checked_add(ABOVE.len())?
+        .checked_add(number_row_length(bound)?)
+}
+
+fn wide_up_to_length(keys: &[Part<'_>], bound: &[i128]) -> Option<usize>
+    ensures { IsLength result (wide_up_to keys.now bound.now) }
+{
+    name_row_length(keys)?
+        .checked_add(AT_MOST.len())?
+        .checked_add(number_row_length(bound)?)
+}
+
+fn by_keys_length(keys: &[Part<'_>]) -> Option<usize>
+    ensures { IsLength result (by_keys keys.now) }
+{
+    names_length(keys)?.checked_add(ORDER_BY.len())
 }
 
 fn one_after_length(skipped: u64) -> usize
@@ -130,7 +203,7 @@ fn one_after_length(skipped: u64) -> usize
 
 // How many bytes the piece has, if that many can be counted.
 fn piece_length(piece: &Piece<'_>) -> Option<usize>
-    ensures { MatchOption result (2 ^ 64 ≤ length (piece_text piece.now)) (λ n. n ≡ length (piece_text piece.now)) }
+    ensures { IsLength result (piece_text piece.now) }
 {
     match piece {
         Piece::Word(bytes) => Some(bytes.len()),
@@ -147,6 +220,9 @@ fn piece_length(piece: &Piece<'_>) -> Option<usize>
         }
         Piece::Above(key, bound) => above_length(key.bytes(), **bound),
         Piece::ByKey(key) => by_key_length(key.bytes()),
+        Piece::WideAbove(keys, bound) => wide_above_length(keys.as_slice(), bound.numbers()),
+        Piece::WideUpTo(keys, bound) => wide_up_to_length(keys.as_slice(), bound.numbers()),
+        Piece::ByKeys(keys) => by_keys_length(keys.as_slice()),
         Piece::OneAfter(skipped) => Some(one_after_length(*skipped)),
     }
 }
@@ -154,7 +230,7 @@ fn piece_length(piece: &Piece<'_>) -> Option<usize>
 // How many bytes the pieces have, if that many can be counted.
 #[tactic(auto, using(crate::proofs::Lengths::pieces_fit))]
 fn pieces_length(pieces: &[Piece<'_>]) -> Option<usize>
-    ensures { MatchOption result (2 ^ 64 ≤ length (flat_map piece_text pieces.now)) (λ n. n ≡ length (flat_map piece_text pieces.now)) }
+    ensures { IsLength result (flat_map piece_text pieces.now) }
 {
     let mut total = 0usize;
     for piece in pieces {
@@ -276,6 +352,100 @@ fn push_by_key(key: &[u8], out: &mut Buffer)
     push_name(key, out);
 }
 
+// Appends a number.
+fn push_number(number: &i128, out: &mut Buffer)
+    requires { length (signed_decimal number.now) ≤ out.old.spare }
+    ensures bytes { out.new.bytes ≡ out.old.bytes ++ signed_decimal number.now }
+    ensures spare { out.new.spare + length (signed_decimal number.now) ≡ out.old.spare }
+{
+    push_signed(*number, out);
+}
+
+// Appends a number after a comma.
+fn push_later_number(number: &i128, out: &mut Buffer)
+    requires { length (later_number number.now) ≤ out.old.spare }
+    ensures bytes { out.new.bytes ≡ out.old.bytes ++ later_number number.now }
+    ensures spare { out.new.spare + length (later_number number.now) ≡ out.old.spare }
+{
+    out.push_byte(b',');
+    push_number(number, out);
+}
+
+// Appends numbers, each after a comma.
+#[tactic(auto, using(crate::proofs::Lengths::later_numbers_fit))]
+fn push_later_numbers(numbers: &[i128], out: &mut Buffer)
+    requires { length (flat_map later_number numbers.now) ≤ out.old.spare }
+    ensures bytes { out.new.bytes ≡ out.old.bytes ++ flat_map later_number numbers.now }
+    ensures spare { out.new.spare + length (flat_map later_number numbers.now) ≡ out.old.spare }
+{
+    for number in numbers {
+        push_later_number(number, out);
+    }
+}
+
+// Appends numbers with commas between them.
+fn push_numbers(row: &[i128], out: &mut Buffer)
+    requires { length (numbers row.now) ≤ out.old.spare }
+    ensures bytes { out.new.bytes ≡ out.old.bytes ++ numbers row.now }
+    ensures spare { out.new.spare + length (numbers row.now) ≡ out.old.spare }
+{
+    if let Some((first, later)) = row.split_first() {
+        push_number(first, out);
+        push_later_numbers(later, out);
+    }
+}
+
+// Appends names in parentheses.
+fn push_name_row(keys: &[Part<'_>], out: &mut Buffer)
+    requires { length (name_row keys.now) ≤ out.old.spare }
+    ensures bytes { out.new.bytes ≡ out.old.bytes ++ name_row keys.now }
+    ensures spare { out.new.spare + length (name_row keys.now) ≡ out.old.spare }
+{
+    out.push_byte(b'(');
+    push_names(keys, out);
+    out.push_byte(b')');
+}
+
+// Appends numbers in parentheses.
+fn push_number_row(row: &[i128], out: &mut Buffer)
+    requires { length (number_row row.now) ≤ out.old.spare }
+    ensures bytes { out.new.bytes ≡ out.old.bytes ++ number_row row.now }
+    ensures spare { out.new.spare + length (number_row row.now) ≡ out.old.spare }
+{
+    out.push_byte(b'(');
+    push_numbers(row, out);
+    out.push_byte(b')');
+}
+
+fn push_wide_above(keys: &[Part<'_>], bound: &[i128], out: &mut Buffer)
+    requires { length (wide_above keys.now bound.now) ≤ out.old.spare }
+    ensures bytes { out.new.bytes ≡ out.old.bytes ++ wide_above keys.now bound.now }
+    ensures spare { out.new.spare + length (wide_above keys.now bound.now) ≡ out.old.spare }
+{
+    push_name_row(keys, out);
+    out.push(ABOVE);
+    push_number_row(bound, out);
+}
+
+fn push_wide_up_to(keys: &[Part<'_>], bound: &[i128], out: &mut Buffer)
+    requires { length (wide_up_to keys.now bound.now) ≤ out.old.spare }
+    ensures bytes { out.new.bytes ≡ out.old.bytes ++ wide_up_to keys.now bound.now }
+    ensures spare { out.new.spare + length (wide_up_to keys.now bound.now) ≡ out.old.spare }
+{
+    push_name_row(keys, out);
+    out.push(AT_MOST);
+    push_number_row(bound, out);
+}
+
+fn push_by_keys(keys: &[Part<'_>], out: &mut Buffer)
+    requires { length (by_keys keys.now) ≤ out.old.spare }
+    ensures bytes { out.new.bytes ≡ out.old.bytes ++ by_keys keys.now }
+    ensures spare { out.new.spare + length (by_keys keys.now) ≡ out.old.spare }
+{
+    out.push(ORDER_BY);
+    push_names(keys, out);
+}
+
 fn push_one_after(skipped: u64, out: &mut Buffer)
     requires { length (one_after skipped) ≤ out.old.spare }
     ensures bytes { out.new.bytes ≡ out.old.bytes ++ one_after skipped }
@@ -307,6 +477,9 @@ fn push_piece(piece: &Piece<'_>, out: &mut Buffer)
         }
         Piece::Above(key, bound) => push_above(key.bytes(), **bound, out),
         Piece::ByKey(key) => push_by_key(key.bytes(), out),
+        Piece::WideAbove(keys, bound) => push_wide_above(keys.as_slice(), bound.numbers(), out),
+        Piece::WideUpTo(keys, bound) => push_wide_up_to(keys.as_slice(), bound.numbers(), out),
+        Piece::ByKeys(keys) => push_by_keys(keys.as_slice(), out),
         Piece::OneAfter(skipped) => push_one_after(*skipped, out),
     }
 }
@@ -329,7 +502,7 @@ fn push_pieces(pieces: &[Piece<'_>], out: &mut Buffer)
 pub(crate) fn pieces_into(pieces: &[Piece<'_>], out: &mut Buffer) -> Result<(), OutOfMemory>
     ensures ok { OnOk result (out.new.bytes ≡ out.old.bytes ++ pieces_text pieces.now) }
     ensures err { OnErr result (out.new ≡ out.old) }
-    ensures room { length (pieces_text pieces.now) ≤ out.old.spare → IsOk result × (out.new.spare + length (pieces_text pieces.now) ≡ out.old.spare) }
+    ensures room { TakesRoom result out.old.spare out.new.spare (pieces_text pieces.now) }
 {
     let _spare = out.spare();
     let Some(length) = pieces_length(pieces) else {

@@ -1,11 +1,12 @@
-// How queries are written.
-ghost use Rattle.std.specs.Prelude.{◌≡◌, ◌+◌, ◌≤◌, ◌++◌, length, IsOk, OnOk, OnErr};
-ghost use Rattle.sql_statements.specs.Piece.{pieces_text};
+//! How queries are written.
+ghost use Rattle.std.specs.Prelude.{◌≡◌, ◌++◌, OnOk, OnErr};
+ghost use Rattle.sql_statements.specs.Piece.{pieces_text, TakesRoom};
 ghost use Rattle.statement_forms.specs.Statement.{QueryHasText};
 ghost use Rattle.statement_forms.specs.Text.{query_text};
 
 use crate::piece::Piece::{
-    Above, ByKey, KeyFrom, Name, OneAfter, Path, RowsFrom, Signed, Text, Word,
+    Above, ByKey, ByKeys, KeyFrom, Name, OneAfter, Path, RowsFrom, Signed, Text, WideAbove,
+    WideUpTo, Word,
 };
 use crate::piece::{Piece, pieces_into};
 use plain_data::{Buffer, OutOfMemory};
@@ -22,6 +23,15 @@ fn query_pieces<'a>(query: &'a Query<'_>) -> [Piece<'a>; 7]
 {
     match query {
         Query::MasterStatus => [Word(b"SHOW MASTER STATUS"), END, END, END, END, END, END],
+        Query::BinaryLogStatus => [
+            Word(b"SHOW BINARY LOG STATUS"),
+            END,
+            END,
+            END,
+            END,
+            END,
+            END,
+        ],
         Query::Schemas => [
             Word(b"SELECT SCHEMA_NAME FROM information_schema.SCHEMATA"),
             END,
@@ -95,6 +105,15 @@ fn query_pieces<'a>(query: &'a Query<'_>) -> [Piece<'a>; 7]
             END,
             END,
         ],
+        Query::Events { schema } => [
+            Word(b"SELECT EVENT_NAME FROM information_schema.EVENTS WHERE EVENT_SCHEMA="),
+            Text(schema),
+            END,
+            END,
+            END,
+            END,
+            END,
+        ],
         Query::CreateDatabase { schema } => [
             Word(b"SHOW CREATE DATABASE "),
             Name(schema),
@@ -142,6 +161,15 @@ fn query_pieces<'a>(query: &'a Query<'_>) -> [Piece<'a>; 7]
         ],
         Query::CreateTrigger { schema, name } => [
             Word(b"SHOW CREATE TRIGGER "),
+            Path(schema, name),
+            END,
+            END,
+            END,
+            END,
+            END,
+        ],
+        Query::CreateEvent { schema, name } => [
+            Word(b"SHOW CREATE EVENT "),
             Path(schema, name),
             END,
             END,
@@ -251,6 +279,95 @@ fn query_pieces<'a>(query: &'a Query<'_>) -> [Piece<'a>; 7]
             Signed(up_to),
             ByKey(key),
         ],
+        Query::WideKey {
+            keys,
+            schema,
+            table,
+            skipped,
+        } => [
+            RowsFrom(keys, schema, table),
+            ByKeys(keys),
+            OneAfter(*skipped),
+            END,
+            END,
+            END,
+            END,
+        ],
+        Query::WideKeyAbove {
+            keys,
+            schema,
+            table,
+            above,
+            skipped,
+        } => [
+            RowsFrom(keys, schema, table),
+            Word(b" WHERE "),
+            WideAbove(keys, above),
+            ByKeys(keys),
+            OneAfter(*skipped),
+            END,
+            END,
+        ],
+        Query::RowsByWideKey {
+            columns,
+            schema,
+            table,
+            keys,
+        } => [
+            RowsFrom(columns, schema, table),
+            ByKeys(keys),
+            END,
+            END,
+            END,
+            END,
+            END,
+        ],
+        Query::RowsAboveWide {
+            columns,
+            schema,
+            table,
+            keys,
+            above,
+        } => [
+            RowsFrom(columns, schema, table),
+            Word(b" WHERE "),
+            WideAbove(keys, above),
+            ByKeys(keys),
+            END,
+            END,
+            END,
+        ],
+        Query::RowsUpToWide {
+            columns,
+            schema,
+            table,
+            keys,
+            up_to,
+        } => [
+            RowsFrom(columns, schema, table),
+            Word(b" WHERE "),
+            WideUpTo(keys, up_to),
+            ByKeys(keys),
+            END,
+            END,
+            END,
+        ],
+        Query::RowsBetweenWide {
+            columns,
+            schema,
+            table,
+            keys,
+            above,
+            up_to,
+        } => [
+            RowsFrom(columns, schema, table),
+            Word(b" WHERE "),
+            WideAbove(keys, above),
+            Word(b" AND "),
+            WideUpTo(keys, up_to),
+            ByKeys(keys),
+            END,
+        ],
         Query::ProgressDump => [
             Word(b"SELECT `digest` FROM `myloader_progress`.`dump`"),
             END,
@@ -278,7 +395,7 @@ pub fn query_into(query: &Query<'_>, out: &mut Buffer) -> Result<(), OutOfMemory
     requires { QueryHasText query.now }
     ensures ok { OnOk result (out.new.bytes ≡ out.old.bytes ++ query_text query.now) }
     ensures err { OnErr result (out.new ≡ out.old) }
-    ensures room { length (query_text query.now) ≤ out.old.spare → IsOk result × (out.new.spare + length (query_text query.now) ≡ out.old.spare) }
+    ensures room { TakesRoom result out.old.spare out.new.spare (query_text query.now) }
 {
     pieces_into(&query_pieces(query), out)
 }

@@ -1,4 +1,4 @@
-// Names and literals, as they are written and read, and the buffer that they are written into.
+//! Names and literals, as they are written and read, and the buffer that they are written into.
 use crate::words::{bytes_of, plain, push_bytes, words_of};
 use plain_data::{Buffer, Name, NameList, OutOfMemory};
 use sql_cells::{Cell, CellKind};
@@ -115,6 +115,7 @@ fn kind_of(word: &str) -> CellKind {
     match word {
         "number" => CellKind::Number,
         "text" => CellKind::Text,
+        "converted" => CellKind::Converted,
         _ => CellKind::Hex,
     }
 }

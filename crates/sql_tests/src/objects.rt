@@ -1,7 +1,9 @@
-// Texts as SHOW CREATE gives them: their heads, and a table's shape and counter.
+//! Texts as SHOW CREATE gives them: their heads, and a table's shape, key and counter.
 use crate::words::{bytes_of, plain, push_bytes, words_of};
 use object_forms::{Column, Kind, Shape};
-use object_texts::{check_head, counter_of, head_of, shape_of, trigger_table};
+use object_texts::{
+    check_head, counter_of, head_of, key_columns, name_span, shape_of, trigger_table,
+};
 use plain_data::OutOfMemory;
 use std::alloc::Global;
 
@@ -12,7 +14,9 @@ pub fn object_case(alloc: Global, call: &str, rest: &str) -> Result<String, OutO
         "head" => head(alloc, &text),
         "trigger" => trigger(alloc, &text),
         "check" => checked(alloc, &text),
+        "name" => name(alloc, &text),
         "shape" => shape(alloc, &text),
+        "key" => key(alloc, &text),
         "counter" => counter(alloc, &text),
         _ => plain(alloc, "no call"),
     }
@@ -26,6 +30,7 @@ fn kind_word(kind: Kind) -> &'static str {
         Kind::Function => "function",
         Kind::View => "view",
         Kind::Trigger => "trigger",
+        Kind::Event => "event",
     }
 }
 
@@ -67,6 +72,16 @@ fn checked(alloc: Global, text: &[u8]) -> Result<String, OutOfMemory> {
     }
 }
 
+// The name as it is spelled, and how many bytes stand before it.
+fn name(alloc: Global, text: &[u8]) -> Result<String, OutOfMemory> {
+    let Some(span) = name_span(text) else {
+        return plain(alloc, "no name");
+    };
+    let (_, rest) = text.split_at(span.before);
+    let name = words_of(alloc, rest.split_at(span.size).0)?;
+    Ok(format!(in alloc; "{name} after {}", span.before)?)
+}
+
 fn push_column(words: &mut String, column: &Column) -> Result<(), OutOfMemory> {
     words.push_str(column.name.as_str())?;
     words.push(' ')?;
@@ -104,6 +119,18 @@ fn shape(alloc: Global, text: &[u8]) -> Result<String, OutOfMemory> {
         Some(shape) => shape_words(alloc, &shape),
         None => plain(alloc, "no shape"),
     }
+}
+
+// The indices of the columns.
+fn key(alloc: Global, text: &[u8]) -> Result<String, OutOfMemory> {
+    let Some(indices) = key_columns(alloc, text)? else {
+        return plain(alloc, "no key");
+    };
+    let mut words = plain(alloc, "columns")?;
+    for index in indices.as_slice() {
+        write!(words, " {index}")?;
+    }
+    Ok(words)
 }
 
 fn counter(alloc: Global, text: &[u8]) -> Result<String, OutOfMemory> {

@@ -1,4 +1,4 @@
-// Statements that are read and written again, their variable parts, and the INSERTs of data files.
+//! Statements that are read and written again, their variable parts, and the INSERTs of data files.
 use crate::words::{bytes_of, plain, push_bytes, words_of};
 use plain_data::{Buffer, Bytes, OutOfMemory};
 use sql_statements::{command_into, query_into};
@@ -11,6 +11,7 @@ pub fn statement_case(alloc: Global, call: &str, rest: &str) -> Result<String, O
     match call {
         "read" => read(alloc, &bytes_of(alloc, rest)?),
         "progress" => progress(alloc, &bytes_of(alloc, rest)?),
+        "zone" => zone(alloc, &bytes_of(alloc, rest)?),
         "parts" => parts(alloc, rest),
         "insert" => inserted(alloc, rest),
         _ => plain(alloc, "no call"),
@@ -56,6 +57,23 @@ fn progress(alloc: Global, text: &[u8]) -> Result<String, OutOfMemory> {
     } else {
         "no"
     };
+    plain(alloc, word)
+}
+
+fn is_zone(alloc: Global, text: &[u8]) -> bool {
+    match statement_read(alloc, text) {
+        Ok(statement) => {
+            let is = matches!(&statement, Statement::Command(Command::TimeZone(_)));
+            drop(statement);
+            is
+        }
+        Err(_) => false,
+    }
+}
+
+// Whether the text sets any time zone: that of UTC has a statement of its own as well.
+fn zone(alloc: Global, text: &[u8]) -> Result<String, OutOfMemory> {
+    let word = if is_zone(alloc, text) { "yes" } else { "no" };
     plain(alloc, word)
 }
 

@@ -1,4 +1,4 @@
-// Bytes and numbers as the cases have them.
+//! Bytes and numbers as the cases have them.
 use percent_encoding::{AsciiSet, CONTROLS, ascii_set, percent_decode, percent_encode};
 use plain_data::OutOfMemory;
 use std::alloc::Global;

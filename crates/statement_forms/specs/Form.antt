@@ -1,11 +1,11 @@
 -- The forms of statements, by which reports name them.
 use Rattle.std.specs.Prelude.{ℕ, List, codes}
 use Rattle.statement_forms.specs.declared.command.Command.{Command}
-use Rattle.statement_forms.specs.declared.command.Command.TheVariants.{SetUp, NamesUtf8mb4, NamesBinary, ForeignKeyChecksOff, TimeZoneUtc, BinaryLogOff, SqlMode, CharacterSetClient, CollationConnection, RepeatableRead, LockInstance, FlushTables, UnlockTables, UnlockInstance, StartSnapshot, Start, Commit, Rollback, Use, Create, CreateProgress, CreateProgressFiles, CreateProgressDump, Insert, InsertProgressFile, InsertProgressDump}
+use Rattle.statement_forms.specs.declared.command.Command.TheVariants.{SetUp, NamesUtf8mb4, NamesBinary, ForeignKeyChecksOff, TimeZoneUtc, BinaryLogOff, SqlMode, CharacterSetClient, CollationConnection, RepeatableRead, TimeZone, LockInstance, FlushTables, UnlockTables, UnlockInstance, StartSnapshot, Start, Commit, Rollback, Use, Create, CreateProgress, CreateProgressFiles, CreateProgressDump, Insert, InsertProgressFile, InsertProgressDump}
 use Rattle.statement_forms.specs.declared.form.Form.{Form}
-use Rattle.statement_forms.specs.declared.form.Form.TheVariants.{Set, LockInstance as LockInstanceForm, Flush, UnlockTables as UnlockTablesForm, UnlockInstance as UnlockInstanceForm, Start as StartForm, Commit as CommitForm, Rollback as RollbackForm, Use as UseForm, Create as CreateForm, Insert as InsertForm, ShowMasterStatus, Select, ShowCreate, Connect}
+use Rattle.statement_forms.specs.declared.form.Form.TheVariants.{Set, LockInstance as LockInstanceForm, Flush, UnlockTables as UnlockTablesForm, UnlockInstance as UnlockInstanceForm, Start as StartForm, Commit as CommitForm, Rollback as RollbackForm, Use as UseForm, Create as CreateForm, Insert as InsertForm, ShowMasterStatus, ShowBinaryLogStatus, Select, ShowCreate, Connect}
 use Rattle.statement_forms.specs.declared.query.Query.{Query}
-use Rattle.statement_forms.specs.declared.query.Query.TheVariants.{MasterStatus, Schemas, Tables, Columns, PrimaryKey, Triggers, Routines, ViewNeeds, CreateDatabase, CreateTable, CreateView, CreateProcedure, CreateFunction, CreateTrigger, Key, KeyAbove, Rows, RowsByKey, RowsAbove, RowsUpTo, RowsBetween, ProgressDump, ProgressFiles}
+use Rattle.statement_forms.specs.declared.query.Query.TheVariants.{MasterStatus, BinaryLogStatus, Schemas, Tables, Columns, PrimaryKey, Triggers, Routines, ViewNeeds, Events, CreateDatabase, CreateTable, CreateView, CreateProcedure, CreateFunction, CreateTrigger, CreateEvent, Key, KeyAbove, Rows, RowsByKey, RowsAbove, RowsUpTo, RowsBetween, WideKey, WideKeyAbove, RowsByWideKey, RowsAboveWide, RowsUpToWide, RowsBetweenWide, ProgressDump, ProgressFiles}
 use Rattle.statement_forms.specs.declared.statement.Statement.{Statement}
 use Rattle.statement_forms.specs.declared.statement.Statement.TheVariants.{Command as SomeCommand, Query as SomeQuery}
 
@@ -23,6 +23,7 @@ form_word UseForm = codes "USE"
 form_word CreateForm = codes "CREATE"
 form_word InsertForm = codes "INSERT"
 form_word ShowMasterStatus = codes "SHOW MASTER STATUS"
+form_word ShowBinaryLogStatus = codes "SHOW BINARY LOG STATUS"
 form_word Select = codes "SELECT"
 form_word ShowCreate = codes "SHOW CREATE"
 form_word Connect = codes "CONNECT"
@@ -38,6 +39,7 @@ command_form (SqlMode value) = Set
 command_form (CharacterSetClient value) = Set
 command_form (CollationConnection value) = Set
 command_form RepeatableRead = Set
+command_form (TimeZone value) = Set
 command_form LockInstance = LockInstanceForm
 command_form FlushTables = Flush
 command_form UnlockTables = UnlockTablesForm
@@ -57,6 +59,7 @@ command_form (InsertProgressDump digest) = InsertForm
 
 abbrev pub query_form : Query → Form
 query_form MasterStatus = ShowMasterStatus
+query_form BinaryLogStatus = ShowBinaryLogStatus
 query_form Schemas = Select
 query_form (Tables schema) = Select
 query_form (Columns schema table) = Select
@@ -64,12 +67,14 @@ query_form (PrimaryKey schema table) = Select
 query_form (Triggers schema) = Select
 query_form (Routines schema) = Select
 query_form (ViewNeeds schema) = Select
+query_form (Events schema) = Select
 query_form (CreateDatabase schema) = ShowCreate
 query_form (CreateTable schema name) = ShowCreate
 query_form (CreateView schema name) = ShowCreate
 query_form (CreateProcedure schema name) = ShowCreate
 query_form (CreateFunction schema name) = ShowCreate
 query_form (CreateTrigger schema name) = ShowCreate
+query_form (CreateEvent schema name) = ShowCreate
 query_form (Key key schema table skipped) = Select
 query_form (KeyAbove key schema table above skipped) = Select
 query_form (Rows columns schema table) = Select
@@ -77,6 +82,12 @@ query_form (RowsByKey columns schema table key) = Select
 query_form (RowsAbove columns schema table key above) = Select
 query_form (RowsUpTo columns schema table key up_to) = Select
 query_form (RowsBetween columns schema table key above up_to) = Select
+query_form (WideKey keys schema table skipped) = Select
+query_form (WideKeyAbove keys schema table above skipped) = Select
+query_form (RowsByWideKey columns schema table keys) = Select
+query_form (RowsAboveWide columns schema table keys above) = Select
+query_form (RowsUpToWide columns schema table keys up_to) = Select
+query_form (RowsBetweenWide columns schema table keys above up_to) = Select
 query_form ProgressDump = Select
 query_form ProgressFiles = Select
 

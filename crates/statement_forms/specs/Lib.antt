@@ -1,5 +1,6 @@
 pub mod Form
 pub mod Held
 pub mod Insert
+pub mod Number
 pub mod Statement
 pub mod Text

@@ -5,9 +5,9 @@ use Rattle.std.specs.List.{join_with_byte}
 use Rattle.sql_cells.specs.Literal.{text_literal}
 use Rattle.sql_cells.specs.Name.{quoted_name}
 use Rattle.statement_forms.specs.declared.command.Command.{Command}
-use Rattle.statement_forms.specs.declared.command.Command.TheVariants.{SetUp, NamesUtf8mb4, NamesBinary, ForeignKeyChecksOff, TimeZoneUtc, BinaryLogOff, SqlMode, CharacterSetClient, CollationConnection, RepeatableRead, LockInstance, FlushTables, UnlockTables, UnlockInstance, StartSnapshot, Start, Commit, Rollback, Use, Create, CreateProgress, CreateProgressFiles, CreateProgressDump, Insert, InsertProgressFile, InsertProgressDump}
+use Rattle.statement_forms.specs.declared.command.Command.TheVariants.{SetUp, NamesUtf8mb4, NamesBinary, ForeignKeyChecksOff, TimeZoneUtc, BinaryLogOff, SqlMode, CharacterSetClient, CollationConnection, RepeatableRead, TimeZone, LockInstance, FlushTables, UnlockTables, UnlockInstance, StartSnapshot, Start, Commit, Rollback, Use, Create, CreateProgress, CreateProgressFiles, CreateProgressDump, Insert, InsertProgressFile, InsertProgressDump}
 use Rattle.statement_forms.specs.declared.query.Query.{Query}
-use Rattle.statement_forms.specs.declared.query.Query.TheVariants.{MasterStatus, Schemas, Tables, Columns, PrimaryKey, Triggers, Routines, ViewNeeds, CreateDatabase, CreateTable, CreateView, CreateProcedure, CreateFunction, CreateTrigger, Key, KeyAbove, Rows, RowsByKey, RowsAbove, RowsUpTo, RowsBetween, ProgressDump, ProgressFiles}
+use Rattle.statement_forms.specs.declared.query.Query.TheVariants.{MasterStatus, BinaryLogStatus, Schemas, Tables, Columns, PrimaryKey, Triggers, Routines, ViewNeeds, Events, CreateDatabase, CreateTable, CreateView, CreateProcedure, CreateFunction, CreateTrigger, CreateEvent, Key, KeyAbove, Rows, RowsByKey, RowsAbove, RowsUpTo, RowsBetween, WideKey, WideKeyAbove, RowsByWideKey, RowsAboveWide, RowsUpToWide, RowsBetweenWide, ProgressDump, ProgressFiles}
 
 -- a schema, a dot and a name, each between backquotes
 abbrev pub dotted : List ℕ → List ℕ → List ℕ
@@ -28,6 +28,7 @@ command_text (SqlMode value) = codes "SET SESSION sql_mode=" ++ text_literal val
 command_text (CharacterSetClient value) = codes "SET SESSION character_set_client=" ++ text_literal value
 command_text (CollationConnection value) = codes "SET SESSION collation_connection=" ++ text_literal value
 command_text RepeatableRead = codes "SET SESSION TRANSACTION ISOLATION LEVEL REPEATABLE READ"
+command_text (TimeZone value) = codes "SET TIME_ZONE=" ++ text_literal value
 command_text LockInstance = codes "LOCK INSTANCE FOR BACKUP"
 command_text FlushTables = codes "FLUSH TABLES WITH READ LOCK"
 command_text UnlockTables = codes "UNLOCK TABLES"
@@ -63,8 +64,33 @@ one_after skipped = codes " LIMIT " ++ decimal skipped ++ codes ",1"
 abbrev pub key_above : List ℕ → ℤ → List ℕ
 key_above key bound = codes " WHERE " ++ quoted_name key ++ codes " > " ++ signed_decimal bound
 
+-- the order of a key of several columns
+abbrev pub by_keys : List (List ℕ) → List ℕ
+by_keys keys = codes " ORDER BY " ++ names keys
+
+-- the columns of a key in parentheses
+abbrev pub name_row : List (List ℕ) → List ℕ
+name_row keys = codes "(" ++ names keys ++ codes ")"
+
+-- numbers with commas between them
+abbrev pub numbers : List ℤ → List ℕ
+numbers row = join_with_byte 44 (map signed_decimal row)
+
+-- numbers in parentheses
+abbrev pub number_row : List ℤ → List ℕ
+number_row row = codes "(" ++ numbers row ++ codes ")"
+
+-- the key of several columns is above a bound
+abbrev pub wide_above : List (List ℕ) → List ℤ → List ℕ
+wide_above keys bound = name_row keys ++ codes " > " ++ number_row bound
+
+-- the key of several columns is at most a bound
+abbrev pub wide_up_to : List (List ℕ) → List ℤ → List ℕ
+wide_up_to keys bound = name_row keys ++ codes " <= " ++ number_row bound
+
 unfoldable pub query_text : Query → List ℕ
 query_text MasterStatus = codes "SHOW MASTER STATUS"
+query_text BinaryLogStatus = codes "SHOW BINARY LOG STATUS"
 query_text Schemas = codes "SELECT SCHEMA_NAME FROM information_schema.SCHEMATA"
 query_text (Tables schema) = codes "SELECT TABLE_NAME,TABLE_TYPE,ENGINE FROM information_schema.TABLES WHERE TABLE_SCHEMA=" ++ text_literal schema
 query_text (Columns schema table) = codes "SELECT COLUMN_NAME,DATA_TYPE,COLUMN_TYPE,EXTRA FROM information_schema.COLUMNS WHERE TABLE_SCHEMA=" ++ text_literal schema ++ codes " AND TABLE_NAME=" ++ text_literal table ++ codes " ORDER BY ORDINAL_POSITION"
@@ -72,12 +98,14 @@ query_text (PrimaryKey schema table) = codes "SELECT COLUMN_NAME FROM informatio
 query_text (Triggers schema) = codes "SELECT TRIGGER_NAME,EVENT_OBJECT_TABLE,ACTION_ORDER FROM information_schema.TRIGGERS WHERE TRIGGER_SCHEMA=" ++ text_literal schema
 query_text (Routines schema) = codes "SELECT ROUTINE_NAME,ROUTINE_TYPE FROM information_schema.ROUTINES WHERE ROUTINE_SCHEMA=" ++ text_literal schema
 query_text (ViewNeeds schema) = codes "SELECT VIEW_NAME,TABLE_SCHEMA,TABLE_NAME FROM information_schema.VIEW_TABLE_USAGE WHERE VIEW_SCHEMA=" ++ text_literal schema
+query_text (Events schema) = codes "SELECT EVENT_NAME FROM information_schema.EVENTS WHERE EVENT_SCHEMA=" ++ text_literal schema
 query_text (CreateDatabase schema) = codes "SHOW CREATE DATABASE " ++ quoted_name schema
 query_text (CreateTable schema name) = codes "SHOW CREATE TABLE " ++ dotted schema name
 query_text (CreateView schema name) = codes "SHOW CREATE VIEW " ++ dotted schema name
 query_text (CreateProcedure schema name) = codes "SHOW CREATE PROCEDURE " ++ dotted schema name
 query_text (CreateFunction schema name) = codes "SHOW CREATE FUNCTION " ++ dotted schema name
 query_text (CreateTrigger schema name) = codes "SHOW CREATE TRIGGER " ++ dotted schema name
+query_text (CreateEvent schema name) = codes "SHOW CREATE EVENT " ++ dotted schema name
 query_text (Key key schema table skipped) = key_from key schema table ++ by_key key ++ one_after skipped
 query_text (KeyAbove key schema table above skipped) = key_from key schema table ++ key_above key above ++ by_key key ++ one_after skipped
 query_text (Rows columns schema table) = rows_from columns schema table
@@ -85,5 +113,11 @@ query_text (RowsByKey columns schema table key) = rows_from columns schema table
 query_text (RowsAbove columns schema table key above) = rows_from columns schema table ++ key_above key above ++ by_key key
 query_text (RowsUpTo columns schema table key up_to) = rows_from columns schema table ++ codes " WHERE " ++ quoted_name key ++ codes " <= " ++ signed_decimal up_to ++ by_key key
 query_text (RowsBetween columns schema table key above up_to) = rows_from columns schema table ++ key_above key above ++ codes " AND " ++ quoted_name key ++ codes " <= " ++ signed_decimal up_to ++ by_key key
+query_text (WideKey keys schema table skipped) = rows_from keys schema table ++ by_keys keys ++ one_after skipped
+query_text (WideKeyAbove keys schema table above skipped) = rows_from keys schema table ++ codes " WHERE " ++ wide_above keys above ++ by_keys keys ++ one_after skipped
+query_text (RowsByWideKey columns schema table keys) = rows_from columns schema table ++ by_keys keys
+query_text (RowsAboveWide columns schema table keys above) = rows_from columns schema table ++ codes " WHERE " ++ wide_above keys above ++ by_keys keys
+query_text (RowsUpToWide columns schema table keys up_to) = rows_from columns schema table ++ codes " WHERE " ++ wide_up_to keys up_to ++ by_keys keys
+query_text (RowsBetweenWide columns schema table keys above up_to) = rows_from columns schema table ++ codes " WHERE " ++ wide_above keys above ++ codes " AND " ++ wide_up_to keys up_to ++ by_keys keys
 query_text ProgressDump = codes "SELECT `digest` FROM `myloader_progress`.`dump`"
 query_text ProgressFiles = codes "SELECT `name` FROM `myloader_progress`.`files`"

@@ -1,4 +1,4 @@
-// The statements that are answered by OK or ERR.
+//! The statements that are answered by OK or ERR.
 ghost use Rattle.std.specs.Prelude.{◌≡◌};
 
 use crate::form::Form;
@@ -27,6 +27,8 @@ pub enum Command<'a> {
     CollationConnection(Part<'a>),
     /// `SET SESSION TRANSACTION ISOLATION LEVEL REPEATABLE READ`
     RepeatableRead,
+    /// `SET TIME_ZONE='..'`
+    TimeZone(Part<'a>),
     /// `LOCK INSTANCE FOR BACKUP`
     LockInstance,
     /// `FLUSH TABLES WITH READ LOCK`
@@ -78,7 +80,8 @@ impl Command<'_> {
             | Command::SqlMode(_)
             | Command::CharacterSetClient(_)
             | Command::CollationConnection(_)
-            | Command::RepeatableRead => Form::Set,
+            | Command::RepeatableRead
+            | Command::TimeZone(_) => Form::Set,
             Command::LockInstance => Form::LockInstance,
             Command::FlushTables => Form::Flush,
             Command::UnlockTables => Form::UnlockTables,

@@ -1,4 +1,4 @@
-// The forms of statements.
+//! The forms of statements.
 ghost use Rattle.std.specs.Prelude.{◌≡◌};
 
 /// What kind of statement one is, by which reports name it. Connecting has a form as well, though
@@ -17,6 +17,7 @@ pub enum Form {
     Create,
     Insert,
     ShowMasterStatus,
+    ShowBinaryLogStatus,
     Select,
     ShowCreate,
     Connect,
@@ -42,6 +43,7 @@ impl Form {
             Form::Create => "CREATE",
             Form::Insert => "INSERT",
             Form::ShowMasterStatus => "SHOW MASTER STATUS",
+            Form::ShowBinaryLogStatus => "SHOW BINARY LOG STATUS",
             Form::Select => "SELECT",
             Form::ShowCreate => "SHOW CREATE",
             Form::Connect => "CONNECT",

@@ -4,12 +4,14 @@
 
 mod command;
 mod form;
+mod number_row;
 mod part;
 mod query;
 mod statement;
 
 pub use command::Command;
 pub use form::Form;
+pub use number_row::NumberRow;
 pub use part::{Part, PartList, WholeText};
 pub use query::Query;
 pub use statement::Statement;

@@ -1,4 +1,4 @@
-// The variable parts of statements.
+//! The variable parts of statements.
 ghost use Rattle.std.specs.Prelude.{◌≡◌, IfOk};
 
 use plain_data::{Bytes, OutOfMemory, Plain, PlainList};

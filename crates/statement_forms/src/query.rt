@@ -1,7 +1,8 @@
-// The statements that are answered by rows or ERR.
+//! The statements that are answered by rows or ERR.
 ghost use Rattle.std.specs.Prelude.{◌≡◌};
 
 use crate::form::Form;
+use crate::number_row::NumberRow;
 use crate::part::{Part, PartList};
 
 /// A statement that is answered by rows or ERR, one variant for each text. Its fields stand in the
@@ -10,6 +11,8 @@ use crate::part::{Part, PartList};
 pub enum Query<'a> {
     /// `SHOW MASTER STATUS`
     MasterStatus,
+    /// `SHOW BINARY LOG STATUS`
+    BinaryLogStatus,
     /// The schemas.
     Schemas,
     /// The tables and views of a schema.
@@ -38,6 +41,10 @@ pub enum Query<'a> {
     ViewNeeds {
         schema: Part<'a>,
     },
+    /// The events of a schema.
+    Events {
+        schema: Part<'a>,
+    },
     /// `SHOW CREATE DATABASE`
     CreateDatabase {
         schema: Part<'a>,
@@ -64,6 +71,11 @@ pub enum Query<'a> {
     },
     /// `SHOW CREATE TRIGGER`
     CreateTrigger {
+        schema: Part<'a>,
+        name: Part<'a>,
+    },
+    /// `SHOW CREATE EVENT`
+    CreateEvent {
         schema: Part<'a>,
         name: Part<'a>,
     },
@@ -120,6 +132,54 @@ pub enum Query<'a> {
         above: i128,
         up_to: i128,
     },
+    /// One key of two to four columns, in order, after `skipped` others.
+    WideKey {
+        keys: PartList<'a>,
+        schema: Part<'a>,
+        table: Part<'a>,
+        skipped: u64,
+    },
+    /// One such key above a bound of as many numbers as columns, after `skipped` others.
+    WideKeyAbove {
+        keys: PartList<'a>,
+        schema: Part<'a>,
+        table: Part<'a>,
+        above: NumberRow,
+        skipped: u64,
+    },
+    /// The rows of a table in the order of its key of two to four columns. At least one column is
+    /// read.
+    RowsByWideKey {
+        columns: PartList<'a>,
+        schema: Part<'a>,
+        table: Part<'a>,
+        keys: PartList<'a>,
+    },
+    /// Those whose key is above a bound of as many numbers as columns.
+    RowsAboveWide {
+        columns: PartList<'a>,
+        schema: Part<'a>,
+        table: Part<'a>,
+        keys: PartList<'a>,
+        above: NumberRow,
+    },
+    /// Those whose key is at most such a bound.
+    RowsUpToWide {
+        columns: PartList<'a>,
+        schema: Part<'a>,
+        table: Part<'a>,
+        keys: PartList<'a>,
+        up_to: NumberRow,
+    },
+    /// Those whose key is above one such bound and at most another.
+    RowsBetweenWide {
+        columns: PartList<'a>,
+        schema: Part<'a>,
+        table: Part<'a>,
+        keys: PartList<'a>,
+        above: NumberRow,
+        up_to: NumberRow,
+    },
     /// The digest of the dump that is being loaded.
     ProgressDump,
     /// The names of the loaded files.
@@ -135,12 +195,14 @@ impl Query<'_> {
     {
         match self {
             Query::MasterStatus => Form::ShowMasterStatus,
+            Query::BinaryLogStatus => Form::ShowBinaryLogStatus,
             Query::CreateDatabase { .. }
             | Query::CreateTable { .. }
             | Query::CreateView { .. }
             | Query::CreateProcedure { .. }
             | Query::CreateFunction { .. }
-            | Query::CreateTrigger { .. } => Form::ShowCreate,
+            | Query::CreateTrigger { .. }
+            | Query::CreateEvent { .. } => Form::ShowCreate,
             Query::Schemas
             | Query::Tables { .. }
             | Query::Columns { .. }
@@ -148,6 +210,7 @@ impl Query<'_> {
             | Query::Triggers { .. }
             | Query::Routines { .. }
             | Query::ViewNeeds { .. }
+            | Query::Events { .. }
             | Query::Key { .. }
             | Query::KeyAbove { .. }
             | Query::Rows { .. }
@@ -155,6 +218,12 @@ impl Query<'_> {
             | Query::RowsAbove { .. }
             | Query::RowsUpTo { .. }
             | Query::RowsBetween { .. }
+            | Query::WideKey { .. }
+            | Query::WideKeyAbove { .. }
+            | Query::RowsByWideKey { .. }
+            | Query::RowsAboveWide { .. }
+            | Query::RowsUpToWide { .. }
+            | Query::RowsBetweenWide { .. }
             | Query::ProgressDump
             | Query::ProgressFiles => Form::Select,
         }

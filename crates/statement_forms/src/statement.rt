@@ -1,4 +1,4 @@
-// Statements.
+//! Statements.
 ghost use Rattle.std.specs.Prelude.{◌≡◌};
 
 use crate::command::Command;

@@ -1,6 +1,6 @@
 -- Forms: shapes whose texts are those of some values.
-use Rattle.std.proofs.Common.{◌≡◌, ℕ, zero, suc, ◌+◌, ◌<◌, true, List, [], ◌∷◌, ◌++◌, length, get_or, refl, sym, ◌∙◌, ap, subst, arith, length-append}
-use Rattle.std.proofs.lemmas.List.{get_or-append-add}
+use Rattle.std.proofs.Common.{◌≡◌, ℕ, zero, suc, ◌+◌, ◌<◌, true, List, [], ◌∷◌, ◌++◌, length, take, get_or, refl, sym, ◌∙◌, ap, subst, arith, add-zero, length-append}
+use Rattle.std.proofs.lemmas.List.{get_or-append-add, take_all}
 use Rattle.std.proofs.Math.ListN.{get_or-append}
 use Rattle.grammar.specs.Language.{Language, Refused}
 use Rattle.grammar.proofs.Choices.{place_same}
@@ -59,8 +59,20 @@ kept (again index ∷ slots) before parts t k (a, b, e, first, rest) within = ke
 kept (part kind ∷ slots) before parts t k (a, b, e, first, rest) within =
     kept slots (before ++ a ∷ []) parts b k rest (omega (arith, length-append before (a ∷ []))) ∙ get_or-append before (a ∷ []) [] k within
 
--- Each part is of its kind.
-pub part_is : (slots : List Place) (before parts : List (List ℕ)) (t : List ℕ) (i : ℕ) → HasParts slots before parts t → i < length (kinds slots) → part_language (get_or (kinds slots) i Name) (get_or parts (length before + i) [])
+-- the parts so far are a front of all
+pub fronts : (slots : List Place) (before parts : List (List ℕ)) (t : List ℕ) → HasParts slots before parts t → take (length before) parts ≡ before
+unfolding HasParts
+fronts [] before parts t (e, is) = rw is (take_all (length before) before (omega arith))
+fronts (word bytes ∷ slots) before parts t (a, b, e, first, rest) = fronts slots before parts b rest
+fronts (again index ∷ slots) before parts t (a, b, e, first, rest) = fronts slots before parts b rest
+fronts (part kind ∷ slots) before parts t (a, b, e, first, rest) = shorter before parts a (fronts slots (before ++ a ∷ []) parts b rest) where
+  shorter : (before parts : List (List ℕ)) (a : List ℕ) → take (length (before ++ a ∷ [])) parts ≡ before ++ a ∷ [] → take (length before) parts ≡ before
+  shorter [] parts a e = refl
+  shorter (c ∷ before) [] a e = cc
+  shorter (c ∷ before) (d ∷ parts) a e = let head : d ≡ c = cc in let tail : take (length before) parts ≡ before = shorter before parts a (cc) in cc
+
+-- Each part is of its kind, after the parts before it.
+pub part_is : (slots : List Place) (before parts : List (List ℕ)) (t : List ℕ) (i : ℕ) → HasParts slots before parts t → i < length (kinds slots) → part_language (get_or (kinds slots) i Name) (take (length before + i) parts) (get_or parts (length before + i) [])
 unfolding HasParts
 part_is [] before parts t i has within = absurd (omega arith)
 part_is (word bytes ∷ slots) before parts t i (a, b, e, first, rest) within = part_is slots before parts b i rest within
@@ -68,10 +80,11 @@ part_is (again index ∷ slots) before parts t i (a, b, e, first, rest) within =
 part_is (part kind ∷ slots) before parts t zero (a, b, e, first, rest) within =
     let size : length (before ++ a ∷ []) ≡ suc (length before) = length-append before (a ∷ []) ∙ (omega arith) in
     let here : get_or parts (length before + 0) [] ≡ a = kept slots (before ++ a ∷ []) parts b (length before + 0) rest (omega arith) ∙ get_or-append-add before (a ∷ []) 0 [] in
-    subst (part_language kind) (sym here) first
+    let front : take (length before + 0) parts ≡ before = ap (λ k. take k parts) (add-zero (length before)) ∙ fronts (part kind ∷ slots) before parts t (a, b, e, first, rest) in
+    subst (λ l. part_language kind l (get_or parts (length before + 0) [])) (sym front) (subst (part_language kind before) (sym here) first)
 part_is (part kind ∷ slots) before parts t (suc i) (a, b, e, first, rest) within =
     let size : length (before ++ a ∷ []) + i ≡ length before + suc i = omega (arith, length-append before (a ∷ [])) in
-    subst (λ k. part_language (get_or (kinds slots) i Name) (get_or parts k [])) size (part_is slots (before ++ a ∷ []) parts b i rest (omega arith))
+    subst (λ k. part_language (get_or (kinds slots) i Name) (take k parts) (get_or parts k [])) size (part_is slots (before ++ a ∷ []) parts b i rest (omega arith))
 
 pub parts_count : (slots : List Place) (before parts : List (List ℕ)) (t : List ℕ) → HasParts slots before parts t → length parts ≡ length before + length (kinds slots)
 unfolding HasParts

@@ -15,11 +15,9 @@ use Rattle.grammar.proofs.Sets.{Starts, Lengthens, apart_by, apart_free, next_ap
 use Rattle.grammar.proofs.Wholes.{refused_broken, refused_row}
 use Rattle.sql_cells.specs.Name.{quoted_name, name_byte}
 use Rattle.sql_cells.specs.Number.{is_digit}
-use Rattle.sql_cells.specs.Spelling.{Null, Literal}
-use Rattle.sql_literals.proofs.LiteralReads.{no_empty_null, lengthens_null}
-use Rattle.sql_literals.proofs.NumberReads.{IsDigit, IsNumberStart, IsNumberMore, no_empty_number, starts_number, lengthens_number}
-use Rattle.sql_literals.proofs.TextReads.{no_empty_text, starts_text, lengthens_text}
-use Rattle.sql_literals.proofs.HexReads.{no_empty_hex, starts_hex, lengthens_hex}
+use Rattle.sql_cells.specs.Spelling.{Literal}
+use Rattle.sql_literals.proofs.LiteralReads.{IsLiteralMore, no_empty_literal, begins_literal, lengthens_literal}
+use Rattle.sql_literals.proofs.NumberReads.{IsDigit}
 use Rattle.statement_forms.specs.Insert.{QuotedName, NextName, NamesAnd, NextLiteral, Row, NextRow, Rows, Filled, InsertInto, HasRows}
 use Rattle.statement_reading.specs.InsertReading.{RowRest, RowInside, Values, IsRows, HasValues, IsFilled}
 use Rattle.statement_reading.specs.Parts.{Names}
@@ -28,48 +26,10 @@ use Rattle.statement_reading.proofs.NameReads.{begins_name, begins_names, length
 
 -- literals
 
--- a byte that may lengthen a literal: a point, a digit or a quote
-abbrev InLiteral : ℕ → Type 0
-InLiteral c = IsNumberMore c ⊎ (c ≡ 39)
-
-starts_null : Starts Null (λ c. c ≡ 78)
-unfolding Null
-starts_null = starts_fixed 78 _
-
-no_text_hex : (c : ℕ) → c ≡ 39 → c ≡ 88 → ⊥
-no_text_hex c a b = omega arith
-
 not_digit : (b c : ℕ) → c ≡ b → is_digit b ≡ false → IsDigit c → ⊥
 not_digit b c is other digit = let wrong : IsDigit b = subst IsDigit is digit in cc
 
-no_number_other : (c : ℕ) → IsNumberStart c → (c ≡ 39) ⊎ (c ≡ 88) → ⊥
-no_number_other c (inl minus) (inl e) = omega arith
-no_number_other c (inl minus) (inr e) = omega arith
-no_number_other c (inr digit) (inl e) = not_digit 39 c e refl digit
-no_number_other c (inr digit) (inr e) = not_digit 88 c e refl digit
-
-no_null_other : (c : ℕ) → c ≡ 78 → IsNumberStart c ⊎ ((c ≡ 39) ⊎ (c ≡ 88)) → ⊥
-no_null_other c null (inl (inl minus)) = omega arith
-no_null_other c null (inl (inr digit)) = not_digit 78 c null refl digit
-no_null_other c null (inr (inl e)) = omega arith
-no_null_other c null (inr (inr e)) = omega arith
-
-pub no_empty_literal : ¬ Literal []
-unfolding Literal
-no_empty_literal = neither _ _ no_empty_null (neither _ _ no_empty_number (neither _ _ no_empty_text no_empty_hex))
-
-pub lengthens_literal : Lengthens Literal InLiteral
-unfolding Literal
-lengthens_literal =
-    lengthens_or _ _ _ _ _ no_empty_null (neither _ _ no_empty_number (neither _ _ no_empty_text no_empty_hex)) starts_null (starts_either _ _ _ _ starts_number (starts_either _ _ _ _ starts_text starts_hex)) no_null_other (lengthens_null _)
-    (lengthens_or _ _ _ _ _ no_empty_number (neither _ _ no_empty_text no_empty_hex) starts_number (starts_either _ _ _ _ starts_text starts_hex) no_number_other (lengthens_wider _ _ _ (λ c more. inl more) lengthens_number)
-    (lengthens_or _ _ _ _ _ no_empty_text no_empty_hex starts_text starts_hex no_text_hex (lengthens_wider _ _ _ (λ c quote. inr quote) lengthens_text) (lengthens_hex _)))
-
-pub begins_literal : Begins Literal []
-unfolding Literal Null
-begins_literal = begins_or _ _ (begins_fixed _)
-
-no_literal_mark : (b c : ℕ) → c ≡ b → is_digit b ≡ false → b ≢ 46 → b ≢ 39 → InLiteral c → ⊥
+no_literal_mark : (b c : ℕ) → c ≡ b → is_digit b ≡ false → b ≢ 46 → b ≢ 39 → IsLiteralMore c → ⊥
 no_literal_mark b c is digit point quote (inl (inl e)) = point (sym is ∙ e)
 no_literal_mark b c is digit point quote (inl (inr d)) = not_digit b c is digit d
 no_literal_mark b c is digit point quote (inr e) = quote (sym is ∙ e)
@@ -84,7 +44,7 @@ starts_next_literal : Starts NextLiteral (λ c. c ≡ 44)
 unfolding NextLiteral
 starts_next_literal = starts_then _ _ _ (no_empty_fixed 44 []) (starts_fixed 44 [])
 
-lengthens_next_literal : Lengthens NextLiteral InLiteral
+lengthens_next_literal : Lengthens NextLiteral IsLiteralMore
 unfolding NextLiteral
 lengthens_next_literal = lengthens_then _ _ _ (fixed_apart _ _) no_empty_literal lengthens_literal
 
@@ -96,7 +56,7 @@ begins_next_literal = begins_then _ _ (begins_fixed _) begins_literal
 abbrev IsAfter : ℕ → Type 0
 IsAfter c = (c ≡ 44) ⊎ (c ≡ 41)
 
-not_after : (c : ℕ) → InLiteral c → IsAfter c → ⊥
+not_after : (c : ℕ) → IsLiteralMore c → IsAfter c → ⊥
 not_after c more (inl comma) = no_literal_mark 44 c comma refl (omega arith) (omega arith) more
 not_after c more (inr close) = no_literal_mark 41 c close refl (omega arith) (omega arith) more
 
@@ -128,8 +88,8 @@ pub begins_row : (n : ℕ) → Begins (Row n) []
 unfolding Row
 begins_row n = begins_then _ _ (begins_fixed _) (begins_then _ _ begins_literal (begins_counted n))
 
-lengthens_all : (n : ℕ) → Lengthens (Times NextLiteral n) InLiteral
-lengthens_all n = lengthens_times NextLiteral InLiteral n apart_next_literals no_empty_next_literal lengthens_next_literal
+lengthens_all : (n : ℕ) → Lengthens (Times NextLiteral n) IsLiteralMore
+lengthens_all n = lengthens_times NextLiteral IsLiteralMore n apart_next_literals no_empty_next_literal lengthens_next_literal
 
 lengthens_close : (n : ℕ) (P : ℕ → Type 0) → Lengthens (Then (Times NextLiteral n) (Fixed (codes ")"))) P
 lengthens_close n P = lengthens_then _ _ P (apart_by _ _ _ _ (lengthens_all n) (starts_fixed 41 []) (λ c more close. not_after c more (inr close))) (no_empty_fixed 41 []) (lengthens_fixed _ P)

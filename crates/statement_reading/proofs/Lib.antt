@@ -3,9 +3,12 @@ pub mod NameReads
 pub mod TextReads
 pub mod DigestReads
 pub mod NumberReads
+pub mod BoundReads
 pub mod NameValues
 pub mod TextValues
 pub mod NumberValues
+pub mod WideValues
+pub mod BoundLists
 pub mod NameLists
 pub mod Shapes
 pub mod PartLists
@@ -15,6 +18,7 @@ pub mod FormTexts
 pub mod RowValues
 pub mod Rows
 pub mod QueryForms
+pub mod WideForms
 pub mod KindRows
 pub mod InsertReads
 pub mod KindList

@@ -38,7 +38,7 @@ listed_step text at k within reads =
     let there = name_read text at k reads in
     (read_some QuotedName (drop at text) k (Ok k) no_empty_name there refl, omega (arith, there.place.within, length-drop at text))
 
-after_read : (A B : Language) (s : List ℕ) (p : ℕ) → Apart A B → Reads A s (Ok p) → Then A B s → B (drop p s)
+pub after_read : (A B : Language) (s : List ℕ) (p : ℕ) → Apart A B → Reads A s (Ok p) → Then A B s → B (drop p s)
 unfolding Then Next Apart NextApart
 after_read A B s p apart reads row =
     let whole : take (length (drop p s)) (drop p s) ≡ drop p s = take_all (length (drop p s)) (drop p s) (omega arith) in

@@ -184,15 +184,15 @@ doubled_next s i made size within so_far left size_is = by_name left.name left.i
 -- lists of names
 
 -- what stands after the first of some names
-abbrev after_name : List (List ℕ) → List ℕ
+abbrev pub after_name : List (List ℕ) → List ℕ
 after_name [] = []
 after_name (w ∷ ws) = 44 ∷ names (w ∷ ws)
 
-names_cons : (v : List ℕ) (vs : List (List ℕ)) → names (v ∷ vs) ≡ quoted_name v ++ after_name vs
+pub names_cons : (v : List ℕ) (vs : List (List ℕ)) → names (v ∷ vs) ≡ quoted_name v ++ after_name vs
 names_cons v [] = sym (append-nil (quoted_name v))
 names_cons v (w ∷ ws) = refl
 
-after_text : (vs : List (List ℕ)) → Many NextName (after_name vs)
+pub after_text : (vs : List (List ℕ)) → Many NextName (after_name vs)
 unfolding Many Times NextName Then Fixed Nothing
 after_text [] = (0, refl)
 after_text (w ∷ ws) = let (n, more) = after_text ws in

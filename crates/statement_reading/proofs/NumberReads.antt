@@ -11,7 +11,7 @@ use Rattle.std.proofs.lemmas.List.{take-append-drop, length-take-le, take_more}
 use Rattle.std.proofs.Math.ListN.{get_or-append}
 use Rattle.grammar.specs.Language.{Language, Begins, Reads, Fixed, Then, Or}
 use Rattle.grammar.specs.Reading.{shift}
-use Rattle.grammar.proofs.Choices.{reads_same, reads_or, reads_or_other}
+use Rattle.grammar.proofs.Choices.{neither, reads_same, reads_or, reads_or_other}
 use Rattle.grammar.proofs.Empty.{no_empty_fixed, no_empty_then, begins_fixed, begins_then}
 use Rattle.grammar.proofs.Leaves.{fixed_apart, fixed_byte}
 use Rattle.grammar.proofs.Places.{whole_of, broken_of}
@@ -199,6 +199,9 @@ bound_negative s r minus reads = reads_same (Or Positive Negative) BoundText s (
       some : (s : List ℕ) → get_or s 0 0 ≡ 45 → 0 < length s
       some [] e = absurd (omega arith)
       some (b ∷ s) e = omega arith
+
+pub no_empty_bound : ¬ BoundText []
+no_empty_bound text = neither Positive Negative no_empty_positive no_empty_negative (of_sign [] text)
 
 pub begins_bound : Begins BoundText []
 unfolding Begins BoundText

@@ -9,7 +9,7 @@ use Rattle.grammar.specs.Language.{Language, Reads, Fixed, Then, Or}
 use Rattle.grammar.proofs.Choices.{neither}
 use Rattle.grammar.proofs.Places.{begins_text}
 use Rattle.statement_reading.specs.Parts.{Within, BoundText}
-use Rattle.statement_forms.specs.Statement.{IsI128}
+use Rattle.statement_forms.specs.Number.{IsI128}
 use Rattle.statement_reading.proofs.NumberReads.{Positive, Negative, of_sign, first_digit, no_empty_positive, no_empty_negative}
 
 all_taken : (L : Language) (s : List ℕ) → L s → L (take (length s) s)

@@ -61,9 +61,9 @@ key_form = record {
       (λ i. (key i, schema i, table i, skipped i));
 }
 
-pub key_row : Row 40 key_made (λ (v : key_values) t. IsTextOf (key_made v) t)
+pub key_row : Row 44 key_made (λ (v : key_values) t. IsTextOf (key_made v) t)
 key_row = record {
-  all = λ s e. (((values_of s).a, (values_of s).b, (values_of s).c, (values_of s).n), made_of 40 s e);
+  all = λ s e. (((values_of s).a, (values_of s).b, (values_of s).c, (values_of s).n), made_of 44 s e);
   row = λ v. refl;
   to = λ v t h. h;
   from = λ v t h. h;
@@ -115,9 +115,9 @@ key_above_form = record {
       (λ i. (key i, schema i, table i, above i, skipped i));
 }
 
-pub key_above_row : Row 41 key_above_made (λ (v : key_above_values) t. IsTextOf (key_above_made v) t)
+pub key_above_row : Row 45 key_above_made (λ (v : key_above_values) t. IsTextOf (key_above_made v) t)
 key_above_row = record {
-  all = λ s e. (((values_of s).a, (values_of s).b, (values_of s).c, (values_of s).y, (values_of s).n), made_of 41 s e);
+  all = λ s e. (((values_of s).a, (values_of s).b, (values_of s).c, (values_of s).y, (values_of s).n), made_of 45 s e);
   row = λ v. refl;
   to = λ v t h. h;
   from = λ v t h. h;
@@ -165,9 +165,9 @@ rows_form = record {
       (λ i. (columns i, schema i, table i));
 }
 
-pub rows_row : Row 42 rows_made (λ (v : rows_values) t. IsTextOf (rows_made v) t)
+pub rows_row : Row 46 rows_made (λ (v : rows_values) t. IsTextOf (rows_made v) t)
 rows_row = record {
-  all = λ s e. (((values_of s).columns, (values_of s).a, (values_of s).b), made_of 42 s e);
+  all = λ s e. (((values_of s).columns, (values_of s).a, (values_of s).b), made_of 46 s e);
   row = λ v. refl;
   to = λ v t h. h;
   from = λ v t h. h;
@@ -217,9 +217,9 @@ rows_by_key_form = record {
       (λ i. (columns i, schema i, table i, key i));
 }
 
-pub rows_by_key_row : Row 43 rows_by_key_made (λ (v : rows_by_key_values) t. IsTextOf (rows_by_key_made v) t)
+pub rows_by_key_row : Row 47 rows_by_key_made (λ (v : rows_by_key_values) t. IsTextOf (rows_by_key_made v) t)
 rows_by_key_row = record {
-  all = λ s e. (((values_of s).columns, (values_of s).a, (values_of s).b, (values_of s).c), made_of 43 s e);
+  all = λ s e. (((values_of s).columns, (values_of s).a, (values_of s).b, (values_of s).c), made_of 47 s e);
   row = λ v. refl;
   to = λ v t h. h;
   from = λ v t h. h;
@@ -271,9 +271,9 @@ rows_above_form = record {
       (λ i. (columns i, schema i, table i, key i, above i));
 }
 
-pub rows_above_row : Row 44 rows_above_made (λ (v : rows_above_values) t. IsTextOf (rows_above_made v) t)
+pub rows_above_row : Row 48 rows_above_made (λ (v : rows_above_values) t. IsTextOf (rows_above_made v) t)
 rows_above_row = record {
-  all = λ s e. (((values_of s).columns, (values_of s).a, (values_of s).b, (values_of s).c, (values_of s).y), made_of 44 s e);
+  all = λ s e. (((values_of s).columns, (values_of s).a, (values_of s).b, (values_of s).c, (values_of s).y), made_of 48 s e);
   row = λ v. refl;
   to = λ v t h. h;
   from = λ v t h. h;
@@ -325,9 +325,9 @@ rows_up_to_form = record {
       (λ i. (columns i, schema i, table i, key i, up_to i));
 }
 
-pub rows_up_to_row : Row 45 rows_up_to_made (λ (v : rows_up_to_values) t. IsTextOf (rows_up_to_made v) t)
+pub rows_up_to_row : Row 49 rows_up_to_made (λ (v : rows_up_to_values) t. IsTextOf (rows_up_to_made v) t)
 rows_up_to_row = record {
-  all = λ s e. (((values_of s).columns, (values_of s).a, (values_of s).b, (values_of s).c, (values_of s).y), made_of 45 s e);
+  all = λ s e. (((values_of s).columns, (values_of s).a, (values_of s).b, (values_of s).c, (values_of s).y), made_of 49 s e);
   row = λ v. refl;
   to = λ v t h. h;
   from = λ v t h. h;
@@ -381,9 +381,9 @@ rows_between_form = record {
       (λ i. (columns i, schema i, table i, key i, above i, up_to i));
 }
 
-pub rows_between_row : Row 46 rows_between_made (λ (v : rows_between_values) t. IsTextOf (rows_between_made v) t)
+pub rows_between_row : Row 50 rows_between_made (λ (v : rows_between_values) t. IsTextOf (rows_between_made v) t)
 rows_between_row = record {
-  all = λ s e. (((values_of s).columns, (values_of s).a, (values_of s).b, (values_of s).c, (values_of s).y, (values_of s).z), made_of 46 s e);
+  all = λ s e. (((values_of s).columns, (values_of s).a, (values_of s).b, (values_of s).c, (values_of s).y, (values_of s).z), made_of 50 s e);
   row = λ v. refl;
   to = λ v t h. h;
   from = λ v t h. h;

@@ -9,7 +9,7 @@ use Rattle.statement_reading.specs.declared.fault.StatementFault.{StatementFault
 use Rattle.statement_reading.specs.declared.fault.StatementFault.TheVariants.{BadStatement, OutOfMemory}
 use Rattle.statement_forms.specs.declared.statement.Statement.{Statement}
 use Rattle.statement_reading.proofs.Forms.{refused_same}
-use Rattle.statement_reading.proofs.RowValues.{values_of, statement_at, rebuilt, below_49}
+use Rattle.statement_reading.proofs.RowValues.{values_of, statement_at, rebuilt, below_59}
 
 -- the statements of a row are made of values, whose texts are theirs
 pub record Row {V : Type 0} (n : ℕ) (make : V → Statement) (F : V → Language) : Type 0 where
@@ -65,16 +65,16 @@ of_from n t (s, (low, text)) = elim (at_or_above n (row_of s) low) [ inl h ↦ i
 -- the rows from n on have refused the text, the greatest place being this one: no row yet, or some
 pub record Passed (n : ℕ) (text : List ℕ) (place : ℕ) : Type 0 where
   pub none_has : (s : Statement) → n ≤ row_of s → IsTextOf s text → ⊥
-  pub refused : (n ≡ 49) × (place ≡ 0) ⊎ Refused (TextOfSome (FromRow n)) text place
+  pub refused : (n ≡ 59) × (place ≡ 0) ⊎ Refused (TextOfSome (FromRow n)) text place
 
--- The row of a statement is one of 49.
-pub row_below : (s : Statement) → row_of s < 49
-row_below s = below_49 s
+-- The row of a statement is one of 59.
+pub row_below : (s : Statement) → row_of s < 59
+row_below s = below_59 s
 
-pub passed_start : (text : List ℕ) → Passed 49 text 0
+pub passed_start : (text : List ℕ) → Passed 59 text 0
 passed_start text = record { none_has = λ s above there. omega (arith, row_below s); refused = inl (refl, refl) }
 
-first_refused : (n : ℕ) (text : List ℕ) (p : ℕ) → n + 1 ≡ 49 → Refused (TextOfSome (InRow n)) text p → Refused (TextOfSome (FromRow n)) text p
+first_refused : (n : ℕ) (text : List ℕ) (p : ℕ) → n + 1 ≡ 59 → Refused (TextOfSome (InRow n)) text p → Refused (TextOfSome (FromRow n)) text p
 unfolding TextOfSome
 first_refused n text p last refused = refused_same (TextOfSome (InRow n)) (TextOfSome (FromRow n)) text p
     (λ t (s, (e, there)). (s, (omega arith, there))) (λ t (s, (low, there)). (s, (omega (arith, row_below s), there))) refused

@@ -11,28 +11,31 @@ use Rattle.grammar.proofs.Wholes.{refused_more, refused_broken}
 use Rattle.statement_reading.specs.Parts.{part_language}
 use Rattle.statement_reading.specs.Slots.{place_of, places, slot_language, parts_with, Shaped, HasParts, ends_part, ends_with, ends_before, is_clear, part_count}
 use Rattle.statement_reading.specs.declared.reading.kind.PartKind.{PartKind}
-use Rattle.statement_reading.specs.declared.reading.kind.PartKind.TheVariants.{Name, NameList, TextLiteral, Digest, Count, Bound}
+use Rattle.statement_reading.specs.declared.reading.kind.PartKind.TheVariants.{Name, NameList, Keys, TextLiteral, Digest, Count, Bound, Bounds}
 use Rattle.statement_reading.specs.Slots.{Place}
 use Rattle.statement_reading.specs.declared.reading.slot.Slot.{Slot}
 use Rattle.statement_reading.specs.Slots.Place.{word, part, again}
 use Rattle.statement_reading.proofs.Divisions.{one_cut}
-use Rattle.statement_reading.proofs.NameReads.{begins_name, begins_names, lengthens_name, lengthens_names}
+use Rattle.statement_reading.proofs.NameReads.{begins_name, begins_names, begins_keys, lengthens_name, lengthens_names, lengthens_keys}
 use Rattle.statement_reading.proofs.TextReads.{begins_text, lengthens_text}
 use Rattle.statement_reading.proofs.DigestReads.{nothing_begun, begins_digest, lengthens_digest}
+use Rattle.statement_reading.proofs.BoundReads.{begins_bounds, lengthens_bounds}
 use Rattle.statement_reading.proofs.NumberReads.{begins_count, begins_bound, lengthens_count, lengthens_bound}
 
 -- Each kind of part has texts.
-begins_part : (kind : PartKind) → Begins (part_language kind) []
-begins_part Name = begins_name
-begins_part NameList = begins_names
-begins_part TextLiteral = begins_text
-begins_part Digest = begins_digest
-begins_part Count = begins_count
-begins_part Bound = begins_bound
+begins_part : (kind : PartKind) (before : List (List ℕ)) → Begins (part_language kind before) []
+begins_part Name before = begins_name
+begins_part NameList before = begins_names
+begins_part Keys before = begins_keys
+begins_part TextLiteral before = begins_text
+begins_part Digest before = begins_digest
+begins_part Count before = begins_count
+begins_part Bound before = begins_bound
+begins_part (Bounds index) before = begins_bounds _
 
 begins_slot : (slot : Place) (before : List (List ℕ)) → Begins (slot_language slot before) []
 begins_slot (word bytes) before = begins_fixed _
-begins_slot (part kind) before = begins_part kind
+begins_slot (part kind) before = begins_part kind before
 begins_slot (again index) before = begins_fixed _
 
 -- Each shape has texts.
@@ -42,13 +45,15 @@ begins_shaped [] before = nothing_begun
 begins_shaped (slot ∷ slots) before = begins_next _ _ (begins_slot slot before) (λ a text. begins_shaped slots (parts_with slot before a))
 
 -- What lengthens a part doesn't end it.
-lengthens_kind : (kind : PartKind) → Lengthens (part_language kind) (λ c. ends_part kind c ≡ false)
-lengthens_kind Name = lengthens_wider _ _ _ (λ c is. rw is refl) lengthens_name
-lengthens_kind NameList = lengthens_wider _ _ _ (λ c is. elim is [ inl quote ↦ rw quote refl | inr comma ↦ rw comma refl ]) lengthens_names
-lengthens_kind TextLiteral = lengthens_text _
-lengthens_kind Digest = lengthens_digest _
-lengthens_kind Count = lengthens_wider _ _ _ (λ c digit. rw digit refl) lengthens_count
-lengthens_kind Bound = lengthens_wider _ _ _ (λ c digit. rw digit refl) lengthens_bound
+lengthens_kind : (kind : PartKind) (before : List (List ℕ)) → Lengthens (part_language kind before) (λ c. ends_part kind c ≡ false)
+lengthens_kind Name before = lengthens_wider _ _ _ (λ c is. rw is refl) lengthens_name
+lengthens_kind NameList before = lengthens_wider _ _ _ (λ c is. elim is [ inl quote ↦ rw quote refl | inr comma ↦ rw comma refl ]) lengthens_names
+lengthens_kind Keys before = lengthens_wider _ _ _ (λ c is. elim is [ inl quote ↦ rw quote refl | inr comma ↦ rw comma refl ]) lengthens_keys
+lengthens_kind TextLiteral before = lengthens_text _
+lengthens_kind Digest before = lengthens_digest _
+lengthens_kind Count before = lengthens_wider _ _ _ (λ c digit. rw digit refl) lengthens_count
+lengthens_kind Bound before = lengthens_wider _ _ _ (λ c digit. rw digit refl) lengthens_bound
+lengthens_kind (Bounds index) before = lengthens_wider _ _ _ (λ c is. elim is [ inl digit ↦ rw digit refl | inr comma ↦ rw comma refl ]) (lengthens_bounds _)
 
 apart_nothing : (A : Language) → NextApart A (λ _. Nothing)
 unfolding NextApart Nothing
@@ -62,28 +67,32 @@ both true true e = (refl, refl)
 both true false e = cc
 both false b e = cc
 
-starts_apart : (kind : PartKind) (w : List ℕ) (B : List ℕ → List ℕ → Language) → (w ≡ [] → ⊥) → ((b : ℕ) (r : List ℕ) → w ≡ b ∷ r → ends_part kind b ≡ true) → NextApart (part_language kind) (λ a. Next (Fixed w) (B a))
-starts_apart kind [] B some ends = absurd (some refl)
-starts_apart kind (b ∷ w) B some ends = next_apart_by _ _ _ _ (lengthens_kind kind) (λ a text. starts_word b w (B a)) (λ c lengthens is. let end : ends_part kind c ≡ true = subst (λ x. ends_part kind x ≡ true) (sym is) (ends b w refl) in cc)
+starts_apart : (kind : PartKind) (before : List (List ℕ)) (w : List ℕ) (B : List ℕ → List ℕ → Language) → (w ≡ [] → ⊥) → ((b : ℕ) (r : List ℕ) → w ≡ b ∷ r → ends_part kind b ≡ true) → NextApart (part_language kind before) (λ a. Next (Fixed w) (B a))
+starts_apart kind before [] B some ends = absurd (some refl)
+starts_apart kind before (b ∷ w) B some ends = next_apart_by _ _ _ _ (lengthens_kind kind before) (λ a text. starts_word b w (B a)) (λ c lengthens is. let end : ends_part kind c ≡ true = subst (λ x. ends_part kind x ≡ true) (sym is) (ends b w refl) in cc)
 
-word_apart : (kind : PartKind) (w : List ℕ) (B : List ℕ → List ℕ → Language) → ends_with kind w ≡ true → NextApart (part_language kind) (λ a. Next (Fixed w) (B a))
-word_apart TextLiteral w B ends = next_apart_free _ _ (lengthens_text _)
-word_apart Digest w B ends = next_apart_free _ _ (lengthens_digest _)
-word_apart Name [] B ends = cc
-word_apart Name (b ∷ w) B ends = starts_apart Name (b ∷ w) B (λ e. cc) (λ c r e. let head : b ≡ c = cc in subst (λ x. ends_part Name x ≡ true) head ends)
-word_apart NameList [] B ends = cc
-word_apart NameList (b ∷ w) B ends = starts_apart NameList (b ∷ w) B (λ e. cc) (λ c r e. let head : b ≡ c = cc in subst (λ x. ends_part NameList x ≡ true) head ends)
-word_apart Count [] B ends = cc
-word_apart Count (b ∷ w) B ends = starts_apart Count (b ∷ w) B (λ e. cc) (λ c r e. let head : b ≡ c = cc in subst (λ x. ends_part Count x ≡ true) head ends)
-word_apart Bound [] B ends = cc
-word_apart Bound (b ∷ w) B ends = starts_apart Bound (b ∷ w) B (λ e. cc) (λ c r e. let head : b ≡ c = cc in subst (λ x. ends_part Bound x ≡ true) head ends)
+word_apart : (kind : PartKind) (before : List (List ℕ)) (w : List ℕ) (B : List ℕ → List ℕ → Language) → ends_with kind w ≡ true → NextApart (part_language kind before) (λ a. Next (Fixed w) (B a))
+word_apart TextLiteral before w B ends = next_apart_free _ _ (lengthens_text _)
+word_apart Digest before w B ends = next_apart_free _ _ (lengthens_digest _)
+word_apart Name before [] B ends = cc
+word_apart Name before (b ∷ w) B ends = starts_apart Name before (b ∷ w) B (λ e. cc) (λ c r e. let head : b ≡ c = cc in subst (λ x. ends_part Name x ≡ true) head ends)
+word_apart NameList before [] B ends = cc
+word_apart NameList before (b ∷ w) B ends = starts_apart NameList before (b ∷ w) B (λ e. cc) (λ c r e. let head : b ≡ c = cc in subst (λ x. ends_part NameList x ≡ true) head ends)
+word_apart Keys before [] B ends = cc
+word_apart Keys before (b ∷ w) B ends = starts_apart Keys before (b ∷ w) B (λ e. cc) (λ c r e. let head : b ≡ c = cc in subst (λ x. ends_part Keys x ≡ true) head ends)
+word_apart Count before [] B ends = cc
+word_apart Count before (b ∷ w) B ends = starts_apart Count before (b ∷ w) B (λ e. cc) (λ c r e. let head : b ≡ c = cc in subst (λ x. ends_part Count x ≡ true) head ends)
+word_apart Bound before [] B ends = cc
+word_apart Bound before (b ∷ w) B ends = starts_apart Bound before (b ∷ w) B (λ e. cc) (λ c r e. let head : b ≡ c = cc in subst (λ x. ends_part Bound x ≡ true) head ends)
+word_apart (Bounds index) before [] B ends = cc
+word_apart (Bounds index) before (b ∷ w) B ends = starts_apart (Bounds index) before (b ∷ w) B (λ e. cc) (λ c r e. let head : b ≡ c = cc in subst (λ x. ends_part (Bounds index) x ≡ true) head ends)
 
-part_apart : (kind : PartKind) (slots : List Place) (before : List (List ℕ)) → ends_before kind slots ≡ true → NextApart (part_language kind) (λ a. Shaped slots (before ++ a ∷ []))
+part_apart : (kind : PartKind) (slots : List Place) (before : List (List ℕ)) → ends_before kind slots ≡ true → NextApart (part_language kind before) (λ a. Shaped slots (before ++ a ∷ []))
 unfolding Shaped
 part_apart kind [] before ends = apart_nothing _
 part_apart kind (part other ∷ slots) before ends = cc
 part_apart kind (again index ∷ slots) before ends = cc
-part_apart kind (word bytes ∷ slots) before ends = word_apart kind bytes (λ a t. Shaped slots (before ++ a ∷ [])) ends
+part_apart kind (word bytes ∷ slots) before ends = word_apart kind before bytes (λ a t. Shaped slots (before ++ a ∷ [])) ends
 
 -- What a slot takes ends where what follows it begins.
 slot_apart : (slot : Place) (slots : List Place) (before : List (List ℕ)) → is_clear (slot ∷ slots) ≡ true → NextApart (slot_language slot before) (λ a. Shaped slots (parts_with slot before a))

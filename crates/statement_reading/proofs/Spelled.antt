@@ -1,12 +1,12 @@
 -- The text of a shape, by its parts.
-use Rattle.std.proofs.Common.{◌≡◌, ℕ, suc, ◌+◌, ◌<◌, List, [], ◌∷◌, ◌++◌, length, take, get_or, refl, sym, ◌∙◌, ap, arith, length-append}
+use Rattle.std.proofs.Common.{◌≡◌, ℕ, suc, ◌+◌, ◌<◌, List, [], ◌∷◌, ◌++◌, length, take, get_or, refl, sym, ◌∙◌, ap, subst, arith, length-append}
 use Rattle.std.proofs.lemmas.List.{take_all, take_more}
 use Rattle.grammar.specs.Language.{Fixed}
 use Rattle.statement_reading.specs.Parts.{part_language}
 use Rattle.statement_reading.specs.Slots.{HasParts, kinds}
 use Rattle.statement_reading.specs.Slots.{Place}
 use Rattle.statement_reading.specs.Slots.Place.{word, part, again}
-use Rattle.statement_reading.proofs.Forms.{kept}
+use Rattle.statement_reading.proofs.Forms.{kept, fronts}
 
 -- the text, of which the parts from index k on are still to come
 abbrev pub spelled : List Place → ℕ → List (List ℕ) → List ℕ
@@ -19,20 +19,8 @@ spelled (again index ∷ slots) k parts = get_or (take k parts) index [] ++ spel
 abbrev pub AreOf : List Place → ℕ → List (List ℕ) → Type 0
 AreOf [] k parts = Unit {0}
 AreOf (word bytes ∷ slots) k parts = AreOf slots k parts
-AreOf (part kind ∷ slots) k parts = part_language kind (get_or parts k []) × AreOf slots (suc k) parts
+AreOf (part kind ∷ slots) k parts = part_language kind (take k parts) (get_or parts k []) × AreOf slots (suc k) parts
 AreOf (again index ∷ slots) k parts = AreOf slots k parts
-
--- the parts so far are a front of all
-fronts : (slots : List Place) (before parts : List (List ℕ)) (t : List ℕ) → HasParts slots before parts t → take (length before) parts ≡ before
-unfolding HasParts
-fronts [] before parts t (e, is) = rw is (take_all (length before) before (omega arith))
-fronts (word bytes ∷ slots) before parts t (a, b, e, first, rest) = fronts slots before parts b rest
-fronts (again index ∷ slots) before parts t (a, b, e, first, rest) = fronts slots before parts b rest
-fronts (part kind ∷ slots) before parts t (a, b, e, first, rest) = shorter before parts a (fronts slots (before ++ a ∷ []) parts b rest) where
-  shorter : (before parts : List (List ℕ)) (a : List ℕ) → take (length (before ++ a ∷ [])) parts ≡ before ++ a ∷ [] → take (length before) parts ≡ before
-  shorter [] parts a e = refl
-  shorter (c ∷ before) [] a e = cc
-  shorter (c ∷ before) (d ∷ parts) a e = let head : d ≡ c = cc in let tail : take (length before) parts ≡ before = shorter before parts a (cc) in cc
 
 -- The text is spelled by its parts.
 pub spelled_is : (slots : List Place) (before parts : List (List ℕ)) (t : List ℕ) → HasParts slots before parts t → t ≡ spelled slots (length before) parts
@@ -63,6 +51,6 @@ has_spelled (part kind ∷ slots) before parts k is are front size =
       get_or parts k [],
       spelled slots (suc k) parts,
       refl,
-      are.0,
+      subst (λ l. part_language kind l (get_or parts k [])) front are.0,
       has_spelled slots (before ++ get_or parts k [] ∷ []) parts (suc k) (omega (arith, length-append before (get_or parts k [] ∷ []))) are.1 one (omega arith),
     )

@@ -1,12 +1,14 @@
 -- What readers answer.
-use Rattle.std.specs.Prelude.{◌≡◌, ℕ, ◌≤◌, ◌==◌, Bool, List, Result, Ok, Err}
+use Rattle.std.specs.Prelude.{◌≡◌, ℕ, ◌<◌, ◌≤◌, length, ◌==◌, Bool, List, Result, Ok, Err}
 use Rattle.std.specs.List.{flat_map, list_any}
 use Rattle.grammar.specs.Language.{Language, Refused}
-use Rattle.sql_cells.specs.Name.{name_byte}
+use Rattle.sql_cells.specs.Name.{name_byte, quoted_name}
 use Rattle.statement_forms.specs.Statement.{IsTextOf, row_of}
+use Rattle.statement_forms.specs.Text.{names}
 use Rattle.statement_reading.specs.declared.fault.StatementFault.{StatementFault}
 use Rattle.statement_reading.specs.declared.fault.StatementFault.TheVariants.{BadStatement, OutOfMemory}
 use Rattle.statement_reading.specs.declared.reading.numbers.Number.{Number}
+use Rattle.statement_reading.specs.declared.reading.values.WideSource.{WideSource}
 use Rattle.statement_forms.specs.declared.statement.Statement.{Statement}
 
 -- the reading without the number
@@ -21,6 +23,13 @@ has_byte byte bytes = list_any (λ other. other == byte) bytes
 pub record IsDoubled (bytes : List ℕ) : Type 0 where
   pub name : List ℕ
   pub is : bytes ≡ flat_map name_byte name
+
+-- the columns, the table and the key's columns for which these are written, some of each
+abbrev pub IsWideSource : WideSource → List ℕ → List ℕ → List ℕ → List ℕ → Type 0
+IsWideSource made columns schema table keys =
+    (names made.source.columns ≡ columns) × (0 < length made.source.columns)
+    × (quoted_name made.source.path.schema ≡ schema) × (quoted_name made.source.path.name ≡ table)
+    × (names made.keys ≡ keys) × (0 < length made.keys)
 
 -- the texts of all values
 unfoldable pub TextOfSome : {V : Type 0} → (V → Language) → Language

@@ -4,7 +4,7 @@ use Rattle.std.specs.List.{slice_index_or}
 use Rattle.grammar.specs.Language.{Language, Fixed, Next, Nothing}
 use Rattle.statement_reading.specs.Parts.{part_language, is_decimal_digit}
 use Rattle.statement_reading.specs.declared.reading.kind.PartKind.{PartKind}
-use Rattle.statement_reading.specs.declared.reading.kind.PartKind.TheVariants.{Name, NameList, TextLiteral, Digest, Count, Bound}
+use Rattle.statement_reading.specs.declared.reading.kind.PartKind.TheVariants.{Name, NameList, Keys, TextLiteral, Digest, Count, Bound, Bounds}
 use Rattle.statement_reading.specs.declared.reading.slot.Slot.{Slot}
 use Rattle.statement_reading.specs.declared.reading.slot.Slot.TheVariants.{Word, Part, Again}
 
@@ -28,7 +28,7 @@ places slots = map place_of slots
 -- what may stand in a slot after the parts before it
 abbrev pub slot_language : Place → List (List ℕ) → Language
 slot_language (word bytes) before = Fixed bytes
-slot_language (part kind) before = part_language kind
+slot_language (part kind) before = part_language kind before
 slot_language (again index) before = Fixed (slice_index_or before index [])
 
 -- the parts with that of one more slot
@@ -51,10 +51,12 @@ HasParts (slot ∷ slots) before parts text = (a : List ℕ) × (b : List ℕ) �
 abbrev pub ends_part : PartKind → ℕ → Bool
 ends_part Name byte = if byte == 96 then false else true
 ends_part NameList byte = if byte == 96 then false else (if byte == 44 then false else true)
+ends_part Keys byte = if byte == 96 then false else (if byte == 44 then false else true)
 ends_part TextLiteral byte = true
 ends_part Digest byte = true
 ends_part Count byte = if is_decimal_digit byte then false else true
 ends_part Bound byte = if is_decimal_digit byte then false else true
+ends_part (Bounds index) byte = if is_decimal_digit byte then false else (if byte == 44 then false else true)
 
 -- nothing lengthens the part before the word, or the word has a first byte, which doesn't
 abbrev pub ends_with : PartKind → List ℕ → Bool

@@ -1,4 +1,4 @@
-// Why a text isn't read as a statement.
+//! Why a text isn't read as a statement.
 ghost use Rattle.std.specs.Prelude.{◌≡◌};
 
 use plain_data::OutOfMemory;

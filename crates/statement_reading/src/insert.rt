@@ -1,4 +1,4 @@
-// The INSERT statements of data files, checked against their grammar.
+//! The INSERT statements of data files, checked against their grammar.
 ghost use Rattle.std.specs.Prelude.{◌≡◌, ℕ, ◌++◌, ◌≤◌, codes, take, IfOk, MatchResult};
 ghost use Rattle.grammar.specs.Language.{Reads, Refused, Fixed, Then, Many, Times};
 ghost use Rattle.sql_cells.specs.Name.{name_byte, quoted_name};

@@ -1,4 +1,4 @@
-// Reading texts as statements.
+//! Reading texts as statements.
 ghost use Rattle.std.specs.Prelude.{◌≡◌, ℕ, IfOk};
 ghost use Rattle.grammar.specs.Language.{Refused};
 ghost use Rattle.statement_reading.specs.Kinds.{kind_row};
@@ -19,9 +19,15 @@ enum StatementKind {
 }
 
 // All kinds, from the last row to the first: where a text is that of two, the later row counts.
-const KINDS: [StatementKind; 49] = [
+const KINDS: [StatementKind; 59] = [
     StatementKind::Query(QueryKind::ProgressFiles),
     StatementKind::Query(QueryKind::ProgressDump),
+    StatementKind::Query(QueryKind::RowsBetweenWide),
+    StatementKind::Query(QueryKind::RowsUpToWide),
+    StatementKind::Query(QueryKind::RowsAboveWide),
+    StatementKind::Query(QueryKind::RowsByWideKey),
+    StatementKind::Query(QueryKind::WideKeyAbove),
+    StatementKind::Query(QueryKind::WideKey),
     StatementKind::Query(QueryKind::RowsBetween),
     StatementKind::Query(QueryKind::RowsUpTo),
     StatementKind::Query(QueryKind::RowsAbove),
@@ -29,12 +35,14 @@ const KINDS: [StatementKind; 49] = [
     StatementKind::Query(QueryKind::Rows),
     StatementKind::Query(QueryKind::KeyAbove),
     StatementKind::Query(QueryKind::Key),
+    StatementKind::Query(QueryKind::CreateEvent),
     StatementKind::Query(QueryKind::CreateTrigger),
     StatementKind::Query(QueryKind::CreateFunction),
     StatementKind::Query(QueryKind::CreateProcedure),
     StatementKind::Query(QueryKind::CreateView),
     StatementKind::Query(QueryKind::CreateTable),
     StatementKind::Query(QueryKind::CreateDatabase),
+    StatementKind::Query(QueryKind::Events),
     StatementKind::Query(QueryKind::ViewNeeds),
     StatementKind::Query(QueryKind::Routines),
     StatementKind::Query(QueryKind::Triggers),
@@ -42,6 +50,7 @@ const KINDS: [StatementKind; 49] = [
     StatementKind::Query(QueryKind::Columns),
     StatementKind::Query(QueryKind::Tables),
     StatementKind::Query(QueryKind::Schemas),
+    StatementKind::Query(QueryKind::BinaryLogStatus),
     StatementKind::Query(QueryKind::MasterStatus),
     StatementKind::Command(CommandKind::InsertProgressDump),
     StatementKind::Command(CommandKind::InsertProgressFile),
@@ -59,6 +68,7 @@ const KINDS: [StatementKind; 49] = [
     StatementKind::Command(CommandKind::UnlockTables),
     StatementKind::Command(CommandKind::FlushTables),
     StatementKind::Command(CommandKind::LockInstance),
+    StatementKind::Command(CommandKind::TimeZone),
     StatementKind::Command(CommandKind::RepeatableRead),
     StatementKind::Command(CommandKind::CollationConnection),
     StatementKind::Command(CommandKind::CharacterSetClient),

@@ -21,6 +21,7 @@ pub(crate) enum CommandKind {
     CharacterSetClient,
     CollationConnection,
     RepeatableRead,
+    TimeZone,
     LockInstance,
     FlushTables,
     UnlockTables,
@@ -93,6 +94,10 @@ pub(crate) fn read_command<'a>(
                 b"SET SESSION TRANSACTION ISOLATION LEVEL REPEATABLE READ",
             )?;
             Ok(Statement::Command(Command::RepeatableRead))
+        }
+        CommandKind::TimeZone => {
+            let value = text_form(alloc, text, b"SET TIME_ZONE=", b"")?;
+            Ok(Statement::Command(Command::TimeZone(value)))
         }
         CommandKind::LockInstance => {
             fixed_form(text, b"LOCK INSTANCE FOR BACKUP")?;

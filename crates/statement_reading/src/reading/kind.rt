@@ -7,6 +7,8 @@ pub(crate) enum PartKind {
     Name,
     /// Names between backquotes, with commas between them.
     NameList,
+    /// Two to four names between backquotes, with commas between them.
+    Keys,
     /// A text between single quotes.
     TextLiteral,
     /// 40 lower-case hexadecimal digits.
@@ -15,4 +17,7 @@ pub(crate) enum PartKind {
     Count,
     /// A number of 128 bits, with its sign.
     Bound,
+    /// Numbers of 128 bits with commas between them, as many as there are names in the part of
+    /// this index.
+    Bounds(usize),
 }

@@ -11,7 +11,7 @@ use std::alloc::Global;
 
 /// One key of a table, in order, after so many others.
 pub(crate) fn key_query<'a>(alloc: Global, text: &'a [u8]) -> Result<Statement<'a>, StatementFault>
-    ensures { IsRead (InRow 40) text.now result }
+    ensures { IsRead (InRow 44) text.now result }
 {
     let shape = [
         Word(b"SELECT "),
@@ -49,7 +49,7 @@ pub(crate) fn key_above_query<'a>(
     alloc: Global,
     text: &'a [u8],
 ) -> Result<Statement<'a>, StatementFault>
-    ensures { IsRead (InRow 41) text.now result }
+    ensures { IsRead (InRow 45) text.now result }
 {
     let shape = [
         Word(b"SELECT "),
@@ -90,7 +90,7 @@ pub(crate) fn key_above_query<'a>(
 
 /// The rows of a table.
 pub(crate) fn rows_query<'a>(alloc: Global, text: &'a [u8]) -> Result<Statement<'a>, StatementFault>
-    ensures { IsRead (InRow 42) text.now result }
+    ensures { IsRead (InRow 46) text.now result }
 {
     let shape = [
         Word(b"SELECT "),
@@ -121,7 +121,7 @@ pub(crate) fn rows_by_key_query<'a>(
     alloc: Global,
     text: &'a [u8],
 ) -> Result<Statement<'a>, StatementFault>
-    ensures { IsRead (InRow 43) text.now result }
+    ensures { IsRead (InRow 47) text.now result }
 {
     let shape = [
         Word(b"SELECT "),
@@ -156,7 +156,7 @@ pub(crate) fn rows_above_query<'a>(
     alloc: Global,
     text: &'a [u8],
 ) -> Result<Statement<'a>, StatementFault>
-    ensures { IsRead (InRow 44) text.now result }
+    ensures { IsRead (InRow 48) text.now result }
 {
     let shape = [
         Word(b"SELECT "),
@@ -197,7 +197,7 @@ pub(crate) fn rows_up_to_query<'a>(
     alloc: Global,
     text: &'a [u8],
 ) -> Result<Statement<'a>, StatementFault>
-    ensures { IsRead (InRow 45) text.now result }
+    ensures { IsRead (InRow 49) text.now result }
 {
     let shape = [
         Word(b"SELECT "),
@@ -238,7 +238,7 @@ pub(crate) fn rows_between_query<'a>(
     alloc: Global,
     text: &'a [u8],
 ) -> Result<Statement<'a>, StatementFault>
-    ensures { IsRead (InRow 46) text.now result }
+    ensures { IsRead (InRow 50) text.now result }
 {
     let shape = [
         Word(b"SELECT "),

@@ -8,6 +8,10 @@ use crate::reading::queries::{
     key_above_query, key_query, rows_above_query, rows_between_query, rows_by_key_query,
     rows_query, rows_up_to_query,
 };
+use crate::reading::wide_queries::{
+    rows_above_wide_query, rows_between_wide_query, rows_by_wide_key_query, rows_up_to_wide_query,
+    wide_key_above_query, wide_key_query,
+};
 use statement_forms::{Query, Statement};
 use std::alloc::Global;
 
@@ -15,6 +19,7 @@ use std::alloc::Global;
 #[derive(Clone, Copy)]
 pub(crate) enum QueryKind {
     MasterStatus,
+    BinaryLogStatus,
     Schemas,
     Tables,
     Columns,
@@ -22,12 +27,14 @@ pub(crate) enum QueryKind {
     Triggers,
     Routines,
     ViewNeeds,
+    Events,
     CreateDatabase,
     CreateTable,
     CreateView,
     CreateProcedure,
     CreateFunction,
     CreateTrigger,
+    CreateEvent,
     Key,
     KeyAbove,
     Rows,
@@ -35,6 +42,12 @@ pub(crate) enum QueryKind {
     RowsAbove,
     RowsUpTo,
     RowsBetween,
+    WideKey,
+    WideKeyAbove,
+    RowsByWideKey,
+    RowsAboveWide,
+    RowsUpToWide,
+    RowsBetweenWide,
     ProgressDump,
     ProgressFiles,
 }
@@ -51,6 +64,10 @@ pub(crate) fn read_query<'a>(
         QueryKind::MasterStatus => {
             fixed_form(text, b"SHOW MASTER STATUS")?;
             Ok(Statement::Query(Query::MasterStatus))
+        }
+        QueryKind::BinaryLogStatus => {
+            fixed_form(text, b"SHOW BINARY LOG STATUS")?;
+            Ok(Statement::Query(Query::BinaryLogStatus))
         }
         QueryKind::Schemas => {
             fixed_form(text, b"SELECT SCHEMA_NAME FROM information_schema.SCHEMATA")?;
@@ -118,6 +135,15 @@ pub(crate) fn read_query<'a>(
             )?;
             Ok(Statement::Query(Query::ViewNeeds { schema: value }))
         }
+        QueryKind::Events => {
+            let value = text_form(
+                alloc,
+                text,
+                b"SELECT EVENT_NAME FROM information_schema.EVENTS WHERE EVENT_SCHEMA=",
+                b"",
+            )?;
+            Ok(Statement::Query(Query::Events { schema: value }))
+        }
         QueryKind::CreateDatabase => {
             let schema = name_form(alloc, text, b"SHOW CREATE DATABASE ")?;
             Ok(Statement::Query(Query::CreateDatabase { schema }))
@@ -157,6 +183,13 @@ pub(crate) fn read_query<'a>(
                 name: path.name,
             }))
         }
+        QueryKind::CreateEvent => {
+            let path = path_form(alloc, text, b"SHOW CREATE EVENT ")?;
+            Ok(Statement::Query(Query::CreateEvent {
+                schema: path.schema,
+                name: path.name,
+            }))
+        }
         QueryKind::Key => key_query(alloc, text),
         QueryKind::KeyAbove => key_above_query(alloc, text),
         QueryKind::Rows => rows_query(alloc, text),
@@ -164,6 +197,12 @@ pub(crate) fn read_query<'a>(
         QueryKind::RowsAbove => rows_above_query(alloc, text),
         QueryKind::RowsUpTo => rows_up_to_query(alloc, text),
         QueryKind::RowsBetween => rows_between_query(alloc, text),
+        QueryKind::WideKey => wide_key_query(alloc, text),
+        QueryKind::WideKeyAbove => wide_key_above_query(alloc, text),
+        QueryKind::RowsByWideKey => rows_by_wide_key_query(alloc, text),
+        QueryKind::RowsAboveWide => rows_above_wide_query(alloc, text),
+        QueryKind::RowsUpToWide => rows_up_to_wide_query(alloc, text),
+        QueryKind::RowsBetweenWide => rows_between_wide_query(alloc, text),
         QueryKind::ProgressDump => {
             fixed_form(text, b"SELECT `digest` FROM `myloader_progress`.`dump`")?;
             Ok(Statement::Query(Query::ProgressDump))

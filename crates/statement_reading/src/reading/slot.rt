@@ -4,7 +4,9 @@ ghost use Rattle.grammar.specs.Language.{Reads, Refused};
 ghost use Rattle.statement_reading.specs.Parts.{part_language};
 ghost use Rattle.statement_reading.specs.Slots.{place_of, places, slot_language, Shaped, HasParts, is_clear, part_count};
 
+use crate::reading::bounds::{commas, read_bounds};
 use crate::reading::digest::read_digest;
+use crate::reading::keys::read_keys;
 use crate::reading::kind::PartKind;
 use crate::reading::names::{read_name, read_names};
 use crate::reading::numbers::{read_bound, read_count};
@@ -23,16 +25,18 @@ pub(crate) enum Slot<'w> {
     Again(usize),
 }
 
-fn read_part(bytes: &[u8], kind: PartKind) -> Result<usize, usize>
-    ensures { Reads (part_language kind) bytes.now result }
+fn read_part(bytes: &[u8], kind: PartKind, before: &Parts<'_>) -> Result<usize, usize>
+    ensures { Reads (part_language kind before.now) bytes.now result }
 {
     match kind {
         PartKind::Name => read_name(bytes),
         PartKind::NameList => read_names(bytes),
+        PartKind::Keys => read_keys(bytes),
         PartKind::TextLiteral => read_written_text(bytes),
         PartKind::Digest => read_digest(bytes),
         PartKind::Count => read_count(bytes),
         PartKind::Bound => read_bound(bytes),
+        PartKind::Bounds(index) => read_bounds(bytes, commas(before.get(index))),
     }
 }
 
@@ -41,7 +45,7 @@ fn read_slot(bytes: &[u8], slot: &Slot<'_>, before: &Parts<'_>) -> Result<usize,
 {
     match slot {
         Slot::Word(word) => read_fixed(bytes, word),
-        Slot::Part(kind) => read_part(bytes, *kind),
+        Slot::Part(kind) => read_part(bytes, *kind, before),
         Slot::Again(index) => read_fixed(bytes, before.get(*index)),
     }
 }

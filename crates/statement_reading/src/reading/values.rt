@@ -6,8 +6,8 @@ ghost use Rattle.sql_cells.specs.Literal.{text_literal};
 ghost use Rattle.sql_cells.specs.Name.{name_byte, quoted_name};
 ghost use Rattle.statement_forms.specs.Insert.{QuotedName};
 ghost use Rattle.statement_reading.specs.Parts.{Names, WrittenText, DigestText, Within, BoundText};
-ghost use Rattle.statement_reading.specs.Readings.{IsDoubled, has_byte};
-ghost use Rattle.statement_forms.specs.Statement.{IsI128};
+ghost use Rattle.statement_reading.specs.Readings.{IsDoubled, IsWideSource, has_byte};
+ghost use Rattle.statement_forms.specs.Number.{IsI128};
 ghost use Rattle.statement_forms.specs.Text.{names};
 
 use crate::reading::names::read_name;
@@ -43,6 +43,13 @@ pub(crate) struct Source<'a> {
 pub(crate) struct KeyedSource<'a> {
     pub(crate) source: Source<'a>,
     pub(crate) key: Part<'a>,
+}
+
+/// Columns, their table, and the columns of its key.
+#[derive(Drop)]
+pub(crate) struct WideSource<'a> {
+    pub(crate) source: Source<'a>,
+    pub(crate) keys: PartList<'a>,
 }
 
 fn has_byte(bytes: &[u8], byte: u8) -> bool
@@ -209,6 +216,26 @@ pub(crate) fn keyed_parts<'a>(
     Ok(KeyedSource {
         source: source_parts(alloc, columns, schema, table)?,
         key: name_part(alloc, key)?,
+    })
+}
+
+/// Columns, their table, and the columns of its key.
+pub(crate) fn wide_parts<'a>(
+    alloc: Global,
+    columns: &'a [u8],
+    schema: &'a [u8],
+    table: &'a [u8],
+    keys: &'a [u8],
+) -> Result<WideSource<'a>, OutOfMemory>
+    requires columns { Names columns.now }
+    requires schema { QuotedName schema.now }
+    requires table { QuotedName table.now }
+    requires keys { Names keys.now }
+    ensures { IfOk result (λ made. IsWideSource made columns.now schema.now table.now keys.now) }
+{
+    Ok(WideSource {
+        source: source_parts(alloc, columns, schema, table)?,
+        keys: name_parts(alloc, keys)?,
     })
 }
 

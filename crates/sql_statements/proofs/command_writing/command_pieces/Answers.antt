@@ -44,6 +44,10 @@ pub returns-in-RepeatableRead : goal.returns-in-RepeatableRead
 unfolding command_text
 returns-in-RepeatableRead c = rw c.in-RepeatableRead.is
 
+pub returns-in-TimeZone : goal.returns-in-TimeZone
+unfolding command_text
+returns-in-TimeZone c = rw c.in-TimeZone.is (append-nil _)
+
 pub returns-in-LockInstance : goal.returns-in-LockInstance
 unfolding command_text
 returns-in-LockInstance c = rw c.in-LockInstance.is

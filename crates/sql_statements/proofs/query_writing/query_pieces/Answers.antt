@@ -8,6 +8,10 @@ pub returns-in-MasterStatus : goal.returns-in-MasterStatus
 unfolding query_text
 returns-in-MasterStatus c = rw c.in-MasterStatus.is
 
+pub returns-in-BinaryLogStatus : goal.returns-in-BinaryLogStatus
+unfolding query_text
+returns-in-BinaryLogStatus c = rw c.in-BinaryLogStatus.is
+
 pub returns-in-Schemas : goal.returns-in-Schemas
 unfolding query_text
 returns-in-Schemas c = rw c.in-Schemas.is
@@ -36,6 +40,10 @@ pub returns-in-ViewNeeds : goal.returns-in-ViewNeeds
 unfolding query_text
 returns-in-ViewNeeds c = rw c.in-ViewNeeds.is (append-nil _ ∙ append-nil _ ∙ append-nil _ ∙ append-nil _ ∙ append-nil _)
 
+pub returns-in-Events : goal.returns-in-Events
+unfolding query_text
+returns-in-Events c = rw c.in-Events.is (append-nil _ ∙ append-nil _ ∙ append-nil _ ∙ append-nil _ ∙ append-nil _)
+
 pub returns-in-CreateDatabase : goal.returns-in-CreateDatabase
 unfolding query_text
 returns-in-CreateDatabase c = rw c.in-CreateDatabase.is (append-nil _ ∙ append-nil _ ∙ append-nil _ ∙ append-nil _ ∙ append-nil _)
@@ -59,6 +67,10 @@ returns-in-CreateFunction c = rw c.in-CreateFunction.is (append-nil _ ∙ append
 pub returns-in-CreateTrigger : goal.returns-in-CreateTrigger
 unfolding query_text
 returns-in-CreateTrigger c = rw c.in-CreateTrigger.is (append-nil _ ∙ append-nil _ ∙ append-nil _ ∙ append-nil _ ∙ append-nil _)
+
+pub returns-in-CreateEvent : goal.returns-in-CreateEvent
+unfolding query_text
+returns-in-CreateEvent c = rw c.in-CreateEvent.is (append-nil _ ∙ append-nil _ ∙ append-nil _ ∙ append-nil _ ∙ append-nil _)
 
 pub returns-in-Key : goal.returns-in-Key
 unfolding query_text
@@ -87,6 +99,30 @@ returns-in-RowsUpTo c = rw c.in-RowsUpTo.is (append-nil _)
 pub returns-in-RowsBetween : goal.returns-in-RowsBetween
 unfolding query_text
 returns-in-RowsBetween c = rw c.in-RowsBetween.is
+
+pub returns-in-WideKey : goal.returns-in-WideKey
+unfolding query_text
+returns-in-WideKey c = rw c.in-WideKey.is (append-nil _ ∙ append-nil _ ∙ append-nil _ ∙ append-nil _)
+
+pub returns-in-WideKeyAbove : goal.returns-in-WideKeyAbove
+unfolding query_text
+returns-in-WideKeyAbove c = rw c.in-WideKeyAbove.is (append-nil _ ∙ append-nil _)
+
+pub returns-in-RowsByWideKey : goal.returns-in-RowsByWideKey
+unfolding query_text
+returns-in-RowsByWideKey c = rw c.in-RowsByWideKey.is (append-nil _ ∙ append-nil _ ∙ append-nil _ ∙ append-nil _ ∙ append-nil _)
+
+pub returns-in-RowsAboveWide : goal.returns-in-RowsAboveWide
+unfolding query_text
+returns-in-RowsAboveWide c = rw c.in-RowsAboveWide.is (append-nil _ ∙ append-nil _ ∙ append-nil _)
+
+pub returns-in-RowsUpToWide : goal.returns-in-RowsUpToWide
+unfolding query_text
+returns-in-RowsUpToWide c = rw c.in-RowsUpToWide.is (append-nil _ ∙ append-nil _ ∙ append-nil _)
+
+pub returns-in-RowsBetweenWide : goal.returns-in-RowsBetweenWide
+unfolding query_text
+returns-in-RowsBetweenWide c = rw c.in-RowsBetweenWide.is (append-nil _)
 
 pub returns-in-ProgressDump : goal.returns-in-ProgressDump
 unfolding query_text

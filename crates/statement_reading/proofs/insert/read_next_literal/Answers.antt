@@ -4,7 +4,7 @@ use Rattle.grammar.proofs.Leaves.{fixed_apart}
 use Rattle.grammar.proofs.Places.{passed_on}
 use Rattle.grammar.proofs.Rows.{reads_then, reads_stuck}
 use Rattle.statement_forms.specs.Insert.{NextLiteral}
-use Rattle.statement_reading.proofs.InsertReads.{begins_literal}
+use Rattle.sql_literals.proofs.LiteralReads.{begins_literal}
 use Rattle.statement_reading.proofs.insert.read_next_literal.Goals as goal
 
 pub returns-in_err-comma : goal.returns-in_err-comma

@@ -1,6 +1,6 @@
 use Rattle.std.proofs.Common.{arith}
 use Rattle.std.proofs.lemmas.Grind.{common_steps}
-use Rattle.statement_reading.proofs.KindRows.{set_up_row, names_utf8mb4_row, names_binary_row, foreign_key_checks_off_row, time_zone_utc_row, binary_log_off_row, sql_mode_row, character_set_client_row, collation_connection_row, repeatable_read_row, lock_instance_row, flush_tables_row, unlock_tables_row, unlock_instance_row, start_snapshot_row, start_row, commit_row, rollback_row, use_row, create_row, create_progress_row, create_progress_files_row, create_progress_dump_row, insert_row, insert_progress_file_row, insert_progress_dump_row}
+use Rattle.statement_reading.proofs.KindRows.{set_up_row, names_utf8mb4_row, names_binary_row, foreign_key_checks_off_row, time_zone_utc_row, binary_log_off_row, sql_mode_row, character_set_client_row, collation_connection_row, repeatable_read_row, time_zone_row, lock_instance_row, flush_tables_row, unlock_tables_row, unlock_instance_row, start_snapshot_row, start_row, commit_row, rollback_row, use_row, create_row, create_progress_row, create_progress_files_row, create_progress_dump_row, insert_row, insert_progress_file_row, insert_progress_dump_row}
 use Rattle.statement_reading.proofs.Rows.{row_only, row_fault}
 use Rattle.statement_reading.proofs.reading.commands.read_command.Goals as goal
 
@@ -63,6 +63,12 @@ returns-in_err-fixed_form-in-RepeatableRead c = rw c.in-RepeatableRead.is (row_f
 
 pub returns-in_ok-fixed_form-in-RepeatableRead : goal.returns-in_ok-fixed_form-in-RepeatableRead
 returns-in_ok-fixed_form-in-RepeatableRead c = rw c.in-RepeatableRead.is (row_only repeatable_read_row c.args.text.now tt c.in_ok-fixed_form-in-RepeatableRead.ensures)
+
+pub returns-in_err-value-in-TimeZone : goal.returns-in_err-value-in-TimeZone
+returns-in_err-value-in-TimeZone c = rw c.in-TimeZone.is (row_fault time_zone_row c.args.text.now _ _ c.in_err-value-in-TimeZone.ensures (grind (arith, common_steps)))
+
+pub returns-in_ok-value-in-TimeZone : goal.returns-in_ok-value-in-TimeZone
+returns-in_ok-value-in-TimeZone c = rw c.in-TimeZone.is (row_only time_zone_row c.args.text.now c.in_ok-value-in-TimeZone.value c.in_ok-value-in-TimeZone.ensures)
 
 pub returns-in_err-fixed_form-in-LockInstance : goal.returns-in_err-fixed_form-in-LockInstance
 returns-in_err-fixed_form-in-LockInstance c = rw c.in-LockInstance.is (row_fault lock_instance_row c.args.text.now _ _ c.in_err-fixed_form-in-LockInstance.ensures (grind (arith, common_steps)))

@@ -1,6 +1,6 @@
 use Rattle.std.proofs.Common.{arith}
 use Rattle.std.proofs.lemmas.Grind.{common_steps}
-use Rattle.statement_reading.proofs.KindRows.{master_status_row, schemas_row, tables_row, columns_row, primary_key_row, triggers_row, routines_row, view_needs_row, create_database_row, create_table_row, create_view_row, create_procedure_row, create_function_row, create_trigger_row, progress_dump_row, progress_files_row}
+use Rattle.statement_reading.proofs.KindRows.{master_status_row, binary_log_status_row, schemas_row, tables_row, columns_row, primary_key_row, triggers_row, routines_row, view_needs_row, events_row, create_database_row, create_table_row, create_view_row, create_procedure_row, create_function_row, create_trigger_row, create_event_row, progress_dump_row, progress_files_row}
 use Rattle.statement_reading.proofs.Rows.{row_only, row_fault}
 use Rattle.statement_reading.proofs.reading.query_kinds.read_query.Goals as goal
 
@@ -9,6 +9,12 @@ returns-in_err-fixed_form-in-MasterStatus c = rw c.in-MasterStatus.is (row_fault
 
 pub returns-in_ok-fixed_form-in-MasterStatus : goal.returns-in_ok-fixed_form-in-MasterStatus
 returns-in_ok-fixed_form-in-MasterStatus c = rw c.in-MasterStatus.is (row_only master_status_row c.args.text.now tt c.in_ok-fixed_form-in-MasterStatus.ensures)
+
+pub returns-in_err-fixed_form-in-BinaryLogStatus : goal.returns-in_err-fixed_form-in-BinaryLogStatus
+returns-in_err-fixed_form-in-BinaryLogStatus c = rw c.in-BinaryLogStatus.is (row_fault binary_log_status_row c.args.text.now _ _ c.in_err-fixed_form-in-BinaryLogStatus.ensures (grind (arith, common_steps)))
+
+pub returns-in_ok-fixed_form-in-BinaryLogStatus : goal.returns-in_ok-fixed_form-in-BinaryLogStatus
+returns-in_ok-fixed_form-in-BinaryLogStatus c = rw c.in-BinaryLogStatus.is (row_only binary_log_status_row c.args.text.now tt c.in_ok-fixed_form-in-BinaryLogStatus.ensures)
 
 pub returns-in_err-fixed_form-in-Schemas : goal.returns-in_err-fixed_form-in-Schemas
 returns-in_err-fixed_form-in-Schemas c = rw c.in-Schemas.is (row_fault schemas_row c.args.text.now _ _ c.in_err-fixed_form-in-Schemas.ensures (grind (arith, common_steps)))
@@ -52,6 +58,12 @@ returns-in_err-value-in-ViewNeeds c = rw c.in-ViewNeeds.is (row_fault view_needs
 pub returns-in_ok-value-in-ViewNeeds : goal.returns-in_ok-value-in-ViewNeeds
 returns-in_ok-value-in-ViewNeeds c = rw c.in-ViewNeeds.is (row_only view_needs_row c.args.text.now c.in_ok-value-in-ViewNeeds.value c.in_ok-value-in-ViewNeeds.ensures)
 
+pub returns-in_err-value-in-Events : goal.returns-in_err-value-in-Events
+returns-in_err-value-in-Events c = rw c.in-Events.is (row_fault events_row c.args.text.now _ _ c.in_err-value-in-Events.ensures (grind (arith, common_steps)))
+
+pub returns-in_ok-value-in-Events : goal.returns-in_ok-value-in-Events
+returns-in_ok-value-in-Events c = rw c.in-Events.is (row_only events_row c.args.text.now c.in_ok-value-in-Events.value c.in_ok-value-in-Events.ensures)
+
 pub returns-in_err-schema-in-CreateDatabase : goal.returns-in_err-schema-in-CreateDatabase
 returns-in_err-schema-in-CreateDatabase c = rw c.in-CreateDatabase.is (row_fault create_database_row c.args.text.now _ _ c.in_err-schema-in-CreateDatabase.ensures (grind (arith, common_steps)))
 
@@ -87,6 +99,12 @@ returns-in_err-path-in-CreateTrigger c = rw c.in-CreateTrigger.is (row_fault cre
 
 pub returns-in_ok-path-in-CreateTrigger : goal.returns-in_ok-path-in-CreateTrigger
 returns-in_ok-path-in-CreateTrigger c = rw c.in-CreateTrigger.is (row_only create_trigger_row c.args.text.now c.in_ok-path-in-CreateTrigger.path c.in_ok-path-in-CreateTrigger.ensures)
+
+pub returns-in_err-path-in-CreateEvent : goal.returns-in_err-path-in-CreateEvent
+returns-in_err-path-in-CreateEvent c = rw c.in-CreateEvent.is (row_fault create_event_row c.args.text.now _ _ c.in_err-path-in-CreateEvent.ensures (grind (arith, common_steps)))
+
+pub returns-in_ok-path-in-CreateEvent : goal.returns-in_ok-path-in-CreateEvent
+returns-in_ok-path-in-CreateEvent c = rw c.in-CreateEvent.is (row_only create_event_row c.args.text.now c.in_ok-path-in-CreateEvent.path c.in_ok-path-in-CreateEvent.ensures)
 
 pub returns-in_err-fixed_form-in-ProgressDump : goal.returns-in_err-fixed_form-in-ProgressDump
 returns-in_err-fixed_form-in-ProgressDump c = rw c.in-ProgressDump.is (row_fault progress_dump_row c.args.text.now _ _ c.in_err-fixed_form-in-ProgressDump.ensures (grind (arith, common_steps)))

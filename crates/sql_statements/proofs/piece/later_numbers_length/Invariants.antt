@@ -1,0 +1,7 @@
+use Rattle.std.proofs.Common.{◌≡◌, length, take}
+use Rattle.std.specs.List.{flat_map}
+use Rattle.sql_statements.specs.Piece.{later_number}
+use Rattle.sql_statements.proofs.piece.later_numbers_length.Given as goal
+
+abbrev pub invariant-loop-number : goal.invariant-loop-number
+invariant-loop-number l = l.total ≡ length (flat_map later_number (take l.number-index l.numbers))
