@@ -20,7 +20,8 @@ use Rattle.server_data.specs.declared.data.Change.TheVariants.{Make, Drop, Put, 
 use Rattle.server_data.specs.declared.data.Database.{Database}
 use Rattle.server_data.specs.declared.data.Object.{Object}
 use Rattle.server_data.specs.declared.data.Transaction.{Transaction}
-use Rattle.history_laws.proofs.Objects.{bytes_are, put_objects, remove_objects}
+use Rattle.history_laws.proofs.Objects.{put_objects, remove_objects}
+use Rattle.server_data.proofs.Equals.{bytes_are}
 use Rattle.history_laws.proofs.Rows.{Removed, Rows, fits_table, frame, put_rows, removed, same_first}
 use Rattle.history_laws.specs.Laws.{InterleavingsAgree, ListsThatPutRowsCommute, PutsRows, any_table, changes_row, is_over, is_put, only_puts, row_into, rows_into}
 use Rattle.plain_data.proofs.Options.{same_some}

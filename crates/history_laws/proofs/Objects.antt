@@ -9,8 +9,9 @@ use Rattle.std.proofs.lemmas.Map.Views.{any-filter_same}
 use Rattle.std.proofs.lemmas.Option.{cond_some, option_and_then_some}
 use Rattle.std.proofs.lemmas.Slice.Eq.{bytes_eq-Decides}
 use Rattle.object_forms.specs.declared.kind.Kind.{Kind}
-use Rattle.object_forms.specs.declared.kind.Kind.TheVariants.{Schema, Table, Procedure, Function, View, Trigger}
+use Rattle.object_forms.specs.declared.kind.Kind.TheVariants.{Schema, Table, Procedure, Function, View, Trigger, Event}
 use Rattle.server_data.proofs.Counts.{and_both, and_left, and_right}
+use Rattle.server_data.proofs.Equals.{bytes_are, kind_is}
 use Rattle.server_data.specs.Equal.{kind_eq}
 use Rattle.server_data.specs.Fold.{change_db, changes_db, empty_db, has_object, has_place, has_schema, is_object, may_drop, may_make, more_db, stands_in, with_object, with_row, without_object, without_row, fits_row}
 use Rattle.server_data.specs.declared.data.Change.{Change}
@@ -51,20 +52,6 @@ remove_objects old new schema name row fits = by_test (has_object old Table sche
     by_test false found e = absurd (cc)
     by_test true None e = absurd (cc)
     by_test true (Some rows) e = ap (λ (d : Database). d.objects) (sym (same_some e))
-
--- kinds and names that pass a test are the same
-
-pub kind_is : (one other : Kind) → kind_eq one other ≡ true → one ≡ other
-kind_is Schema Schema e = refl
-kind_is Table Table e = refl
-kind_is Procedure Procedure e = refl
-kind_is Function Function e = refl
-kind_is View View e = refl
-kind_is Trigger Trigger e = refl
-kind_is one other e = absurd (false≢true e)
-
-pub bytes_are : (a b : List ℕ) → bytes_eq a b ≡ true → a ≡ b
-bytes_are a b e = (bytes_eq-Decides a b).0 e
 
 -- an object of this kind, schema and name
 record Is (kind : Kind) (schema name : List ℕ) (object : Object) : Type 0 where
@@ -151,8 +138,12 @@ same_schemas old new same has = subst (λ (objects : List Object). All (λ (obje
 
 placed : (old : Database) (object : Object) (kind : Kind) → has_place old object kind ≡ true → kind_eq kind Schema ≡ false → has_schema old object.schema ≡ true
 placed old object Schema place is_not = absurd (false≢true (sym is_not))
+placed old object Table place is_not = place
+placed old object Procedure place is_not = place
+placed old object Function place is_not = place
+placed old object View place is_not = place
 placed old object Trigger place is_not = and_left (has_schema old object.schema) _ place
-placed old object kind place is_not = place
+placed old object Event place is_not = place
 
 -- what isn't found is no member
 is_none : {X : Type 0} (p : X → Bool) (xs : List X) → list_any p xs ≡ false → All (λ x. p x ≡ false) xs

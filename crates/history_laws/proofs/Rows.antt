@@ -14,7 +14,7 @@ use Rattle.server_data.specs.declared.data.Database.{Database}
 use Rattle.server_data.specs.declared.data.Object.{Object}
 use Rattle.server_data.specs.declared.data.TableRows.{TableRows}
 use Rattle.sql_cells.specs.declared.cell.Cell.{Cell}
-use Rattle.history_laws.proofs.Objects.{bytes_are}
+use Rattle.server_data.proofs.Equals.{bytes_are}
 use Rattle.history_laws.specs.Laws.{changes_row}
 use Rattle.plain_data.proofs.Options.{same_some}
 

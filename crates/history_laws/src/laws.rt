@@ -1,4 +1,4 @@
-// What follows from the definitions. Nothing here runs: the contracts are the laws.
+//! What follows from the definitions. Nothing here runs: the contracts are the laws.
 ghost use Rattle.history_laws.specs.Laws.{InterleavingsAgree, ListsOverDifferentTablesCommute, ListsThatPutRowsCommute, ObjectsStandOnce, OneListIsItsInterleaving, SchemasAreThere};
 
 /// Every interleaving of lists that change the rows of different tables fits where each of them fits

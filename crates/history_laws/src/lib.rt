@@ -1,6 +1,6 @@
 //! Laws of what histories do to a database: what holds after every history, and how histories that
 //! are carried out beside one another leave it. Nothing here runs: the contracts are the laws, over the
-//! data of `server_model`.
+//! data of `server_data`.
 #![tactic(auto)]
 
 mod laws;

@@ -1,6 +1,6 @@
 //! Tries the cases of `cases.txt`: histories that are folded, databases that are compared, what choices
-//! select, and how long names are in the names of files. It prints each case that differs, and how many
-//! there are.
+//! select, what patterns match, and how long names are in the names of files. It prints each case that
+//! differs, and how many there are.
 #![tactic(auto)]
 
 mod fault;
@@ -9,8 +9,8 @@ mod words;
 
 use fault::CaseFault;
 use reading::{choice_of, database_of, history_of};
-use server_data::{Choice, Database};
-use server_model::{agree, escaped_length, replay, select};
+use server_data::Database;
+use server_model::{agree, escaped_length, pattern_matches, replay, select};
 use std::alloc::Global;
 use std::{fs, io};
 use words::database_words;
@@ -58,6 +58,7 @@ fn answer(alloc: Global, case: &str) -> Result<String, CaseFault> {
         "replay" => replayed(alloc, words),
         "agree" => agreed(alloc, words),
         "select" => selected(alloc, words),
+        "matches" => matched(alloc, words),
         "escaped" => escaped(alloc, words),
         _ => Err(CaseFault::Unread),
     }
@@ -81,11 +82,11 @@ fn agreed(alloc: Global, words: &str) -> Result<String, CaseFault> {
     };
     let one = database_of(alloc, one)?;
     let other = database_of(alloc, other)?;
-    agreement_words(alloc, agree(&one, &other))
+    test_words(alloc, agree(&one, &other))
 }
 
-fn agreement_words(alloc: Global, agree: bool) -> Result<String, CaseFault> {
-    let word = if agree { "yes" } else { "no" };
+fn test_words(alloc: Global, passes: bool) -> Result<String, CaseFault> {
+    let word = if passes { "yes" } else { "no" };
     Ok(String::from_str(alloc, word)?)
 }
 
@@ -95,18 +96,18 @@ fn selected(alloc: Global, words: &str) -> Result<String, CaseFault> {
     };
     let choice = choice_of(alloc, choice)?;
     let database = database_of(alloc, database)?;
-    selected_words(alloc, &database, &choice)
+    database_words(alloc, &select(alloc, &database, &choice)?)
 }
 
-fn selected_words(
-    alloc: Global,
-    database: &Database,
-    choice: &Choice,
-) -> Result<String, CaseFault> {
-    if choice.pattern.is_some() {
+// A pattern and a text, each between quotes.
+fn matched(alloc: Global, words: &str) -> Result<String, CaseFault> {
+    let Some((pattern, text)) = words.split_once("' '") else {
         return Err(CaseFault::Unread);
-    }
-    database_words(alloc, &select(alloc, database, choice)?)
+    };
+    let (Some(pattern), Some(text)) = (pattern.strip_prefix("'"), text.strip_suffix("'")) else {
+        return Err(CaseFault::Unread);
+    };
+    test_words(alloc, pattern_matches(pattern.as_bytes(), text.as_bytes()))
 }
 
 fn escaped(alloc: Global, name: &str) -> Result<String, CaseFault> {

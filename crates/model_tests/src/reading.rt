@@ -1,10 +1,10 @@
-// Histories, databases and choices out of the words of a case.
+//! Histories, databases and choices out of the words of a case.
 use crate::fault::CaseFault;
 use object_forms::{Column, ColumnList, Kind};
 use plain_data::{Bytes, Name, NameList};
 use server_data::{
     CellList, Change, ChangeList, Choice, Database, History, Need, NeedList, Object, ObjectList,
-    RowList, TableList, TableRows, Transaction,
+    RowList, Settings, TableList, TableRows, Transaction,
 };
 use sql_cells::Cell;
 use std::alloc::Global;
@@ -17,6 +17,7 @@ fn kind_of(word: &str) -> Result<Kind, CaseFault> {
         "function" => Ok(Kind::Function),
         "view" => Ok(Kind::View),
         "trigger" => Ok(Kind::Trigger),
+        "event" => Ok(Kind::Event),
         _ => Err(CaseFault::Unread),
     }
 }
@@ -26,6 +27,14 @@ fn parts<'a>(words: &'a str, separator: &str) -> (&'a str, &'a str) {
     match words.split_once(separator) {
         Some(parts) => parts,
         None => (words, words),
+    }
+}
+
+// The same, and nothing after the whole where there is none.
+fn around<'a>(words: &'a str, separator: &str) -> (&'a str, &'a str) {
+    match words.split_once(separator) {
+        Some(parts) => parts,
+        None => (words, ""),
     }
 }
 
@@ -63,10 +72,36 @@ fn needs_of(alloc: Global, schema: &str, table: &str) -> Result<NeedList, CaseFa
     Ok(needs)
 }
 
-// An object of this place, `s` of a schema or `s.t`, which needs this table, or nothing.
-fn placed(alloc: Global, kind: Kind, place: &str, table: &str) -> Result<Object, CaseFault> {
+// Settings with this time zone.
+fn settings_of(alloc: Global, zone: &str) -> Result<Settings, CaseFault> {
+    Ok(Settings {
+        sql_mode: Bytes::of(alloc, b"")?,
+        client: Bytes::of(alloc, b"utf8mb4")?,
+        collation: Bytes::of(alloc, b"utf8mb4_bin")?,
+        zone: Bytes::of(alloc, zone.as_bytes())?,
+    })
+}
+
+// None, where no zone is named.
+fn settings_with(alloc: Global, zone: &str) -> Result<Option<Settings>, CaseFault> {
+    if zone.is_empty() {
+        return Ok(None);
+    }
+    Ok(Some(settings_of(alloc, zone)?))
+}
+
+// An object of this place, `s` of a schema or `s.t`, which needs this table, or nothing, and has
+// settings of this time zone, or none.
+fn placed(
+    alloc: Global,
+    kind: Kind,
+    place: &str,
+    table: &str,
+    zone: &str,
+) -> Result<Object, CaseFault> {
     let (schema, name) = parts(place, ".");
     let needs = needs_of(alloc, schema, table)?;
+    let settings = settings_with(alloc, zone)?;
     let Need { schema, name } = need(alloc, schema, name)?;
     let columns = columns_of(alloc)?;
     Ok(Object {
@@ -74,7 +109,7 @@ fn placed(alloc: Global, kind: Kind, place: &str, table: &str) -> Result<Object,
         schema,
         name,
         text: Bytes::of(alloc, b"")?,
-        settings: None,
+        settings,
         columns,
         key: None,
         rank: 0,
@@ -82,14 +117,13 @@ fn placed(alloc: Global, kind: Kind, place: &str, table: &str) -> Result<Object,
     })
 }
 
-// An object, as `table s.t`, or `trigger s.r on t`.
+// An object, as `table s.t`, `trigger s.r on t`, or `event s.e at +00:00`.
 fn object_of(alloc: Global, words: &str) -> Result<Object, CaseFault> {
     let (kind, place) = parts(words, " ");
     let kind = kind_of(kind)?;
-    match place.split_once(" on ") {
-        Some((place, table)) => placed(alloc, kind, place, table),
-        None => placed(alloc, kind, place, ""),
-    }
+    let (place, zone) = around(place, " at ");
+    let (place, table) = around(place, " on ");
+    placed(alloc, kind, place, table, zone)
 }
 
 fn cell_of(alloc: Global, word: &str) -> Result<Cell, CaseFault> {
@@ -202,7 +236,7 @@ pub fn database_of(alloc: Global, words: &str) -> Result<Database, CaseFault> {
     Ok(database)
 }
 
-// Adds a name to those that a choice names, or sets one of its switches.
+// Adds a name to those that a choice names, or sets its pattern or one of its switches.
 fn choose(alloc: Global, words: &str, choice: &mut Choice) -> Result<(), CaseFault> {
     let (call, name) = parts(words, " ");
     match call {
@@ -213,12 +247,15 @@ fn choose(alloc: Global, words: &str, choice: &mut Choice) -> Result<(), CaseFau
         "no-data" => choice.no_data = true,
         "triggers" => choice.triggers = true,
         "routines" => choice.routines = true,
+        "events" => choice.events = true,
+        "like" => choice.pattern = Some(Bytes::of(alloc, name.as_bytes())?),
         _ => return Err(CaseFault::Unread),
     }
     Ok(())
 }
 
-/// A choice: its names, as `database s` or `table s.t`, and its switches, with commas between them.
+/// A choice: its names, as `database s` or `table s.t`, its pattern, as `like s.t*`, and its switches, with
+/// commas between them.
 pub fn choice_of(alloc: Global, words: &str) -> Result<Choice, CaseFault> {
     let mut choice = Choice {
         databases: NameList::new(alloc),
@@ -228,6 +265,7 @@ pub fn choice_of(alloc: Global, words: &str) -> Result<Choice, CaseFault> {
         no_data: false,
         triggers: false,
         routines: false,
+        events: false,
     };
     for words in words.split(", ") {
         choose(alloc, words, &mut choice)?;

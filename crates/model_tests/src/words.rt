@@ -1,4 +1,4 @@
-// The words of a database.
+//! The words of a database.
 use crate::fault::CaseFault;
 use object_forms::Kind;
 use percent_encoding::{CONTROLS, percent_encode};
@@ -14,6 +14,7 @@ fn kind_word(kind: Kind) -> &'static str {
         Kind::Function => "function",
         Kind::View => "view",
         Kind::Trigger => "trigger",
+        Kind::Event => "event",
     }
 }
 

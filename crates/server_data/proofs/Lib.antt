@@ -1,3 +1,4 @@
 pub mod Counts
 pub mod Equals
 pub mod Orders
+pub mod Patterns

@@ -11,9 +11,11 @@ use Rattle.server_data.specs.declared.data.Database.{Database}
 use Rattle.server_data.specs.declared.data.Object.{Object}
 use Rattle.server_data.specs.declared.data.Settings.{Settings}
 
+-- the same settings, or none
 abbrev pub settings_eq : Option Settings → Option Settings → Bool
 settings_eq None None = true
-settings_eq (Some one) (Some other) = bytes_eq one.sql_mode other.sql_mode && (bytes_eq one.client other.client && bytes_eq one.collation other.collation)
+settings_eq (Some one) (Some other) =
+    bytes_eq one.sql_mode other.sql_mode && (bytes_eq one.client other.client && (bytes_eq one.collation other.collation && bytes_eq one.zone other.zone))
 settings_eq one other = false
 
 -- the same object by kind, schema, name, text and settings

@@ -2,7 +2,7 @@
 use Rattle.std.specs.Prelude.{ℕ, ◌==◌, ◌&&◌, not, if◌then◌else◌, Bool, true, List, [], ◌∷◌, ◌++◌, length, Option, Some, None, option_and_then, option_map, bytes_eq}
 use Rattle.std.specs.List.{list_any, filter}
 use Rattle.object_forms.specs.declared.kind.Kind.{Kind}
-use Rattle.object_forms.specs.declared.kind.Kind.TheVariants.{Schema, Table, Trigger}
+use Rattle.object_forms.specs.declared.kind.Kind.TheVariants.{Schema, Table, Procedure, Function, View, Trigger, Event}
 use Rattle.object_forms.specs.declared.shape.Column.{Column}
 use Rattle.sql_cells.specs.declared.cell.Cell.{Cell}
 use Rattle.server_data.specs.Equal.{kind_eq, row_eq}
@@ -39,8 +39,12 @@ table_of (need ∷ needs) = need
 -- what an object of this kind stands in or on is there: a schema stands in nothing, a trigger in its schema and on its table
 abbrev pub has_place : Database → Object → Kind → Bool
 has_place database object Schema = true
+has_place database object Table = has_schema database object.schema
+has_place database object Procedure = has_schema database object.schema
+has_place database object Function = has_schema database object.schema
+has_place database object View = has_schema database object.schema
 has_place database object Trigger = has_schema database object.schema && has_object database Table (table_of object.needs).schema (table_of object.needs).name
-has_place database object kind = has_schema database object.schema
+has_place database object Event = has_schema database object.schema
 
 -- the object may be made
 unfoldable pub may_make : Database → Object → Bool

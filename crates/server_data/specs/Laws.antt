@@ -1,7 +1,13 @@
--- Laws of prefixes and interleavings, of which the functions of src/laws.rt are the proofs.
-use Rattle.std.specs.Prelude.{◌≡◌, Bool, List, [], All, IsTrue, fold, flat_map}
+-- Laws of prefixes and interleavings, of patterns, and of when things are told to be equal. The functions of src/laws.rt are their proofs.
+use Rattle.std.specs.Prelude.{ℕ, ◌≡◌, ◌↔◌, Bool, true, List, [], All, Option, IsTrue, fold, flat_map}
+use Rattle.object_forms.specs.declared.kind.Kind.{Kind}
+use Rattle.server_data.specs.Agree.{object_eq, settings_eq}
+use Rattle.server_data.specs.Equal.{kind_eq}
 use Rattle.server_data.specs.History.{Interleaves, IsPrefix, TakesHead}
+use Rattle.server_data.specs.Pattern.{IsReplaced, matches}
 use Rattle.server_data.specs.declared.data.Database.{Database}
+use Rattle.server_data.specs.declared.data.Object.{Object}
+use Rattle.server_data.specs.declared.data.Settings.{Settings}
 use Rattle.server_data.specs.declared.data.Transaction.{Transaction}
 
 -- one list after the other is an interleaving of them
@@ -30,3 +36,19 @@ IsKept after holds = (lists fewer : List (List Transaction)) (one : Transaction)
 abbrev pub KeptToEnd : Type 0
 KeptToEnd = (after : Database → Transaction → Database) (holds : List (List Transaction) → Database → Bool) → IsKept after holds
     → (lists : List (List Transaction)) (whole : List Transaction) → Interleaves lists whole → (state : Database) → IsTrue (holds lists state) → HoldsAtEnd holds (fold after state whole)
+
+-- a pattern matches the texts that are the pattern with its `*` and `?` replaced, and no others
+abbrev pub PatternsAreReplaced : Type 0
+PatternsAreReplaced = (pattern text : List ℕ) → IsTrue (matches pattern text) ↔ IsReplaced pattern text
+
+-- two kinds that are told to be equal are the same
+abbrev pub KindsAreToldApart : Type 0
+KindsAreToldApart = (one other : Kind) → kind_eq one other ≡ true → one ≡ other
+
+-- an object is told to be equal to itself
+abbrev pub EqualsItself : Type 0
+EqualsItself = (object : Object) → object_eq object object ≡ true
+
+-- settings that are told to be equal are the same in everything
+abbrev pub SettingsAreToldApart : Type 0
+SettingsAreToldApart = (one other : Option Settings) → settings_eq one other ≡ true → one ≡ other

@@ -6,4 +6,5 @@ pub mod History
 pub mod Laws
 pub mod Lending
 pub mod Names
+pub mod Pattern
 pub mod Select

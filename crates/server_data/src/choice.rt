@@ -1,4 +1,4 @@
-// What is to be dumped.
+//! What is to be dumped.
 ghost use Rattle.std.specs.Prelude.{◌≡◌, IfOk};
 
 use crate::data::NeedList;
@@ -11,7 +11,9 @@ pub struct Choice {
     pub databases: NameList,
     /// The tables and views that are named, with their schemas; none means any.
     pub tables: NeedList,
-    /// A pattern of table names. There is none yet.
+    /// Where there is one, only tables and views whose schema, a dot and their name it matches as a whole:
+    /// `*` stands for any bytes, perhaps none, `?` for one byte, and every other byte for itself. Triggers go
+    /// with their tables. Schemas, routines and events don't go by it.
     pub pattern: Option<Bytes>,
     /// No object is selected, rows alone.
     pub no_schemas: bool,
@@ -21,6 +23,8 @@ pub struct Choice {
     pub triggers: bool,
     /// Procedures and functions are selected with their schemas.
     pub routines: bool,
+    /// Events are selected with their schemas.
+    pub events: bool,
 }
 
 impl Choice {
@@ -36,6 +40,7 @@ impl Choice {
             no_data: self.no_data,
             triggers: self.triggers,
             routines: self.routines,
+            events: self.events,
         })
     }
 }

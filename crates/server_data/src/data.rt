@@ -1,12 +1,12 @@
-// What a server holds, and how it changes.
+//! What a server holds, and how it changes.
 ghost use Rattle.std.specs.Prelude.{◌≡◌, IfOk};
 
 use crate::rows::{CellList, RowList};
 use object_forms::{ColumnList, Kind};
 use plain_data::{Bytes, Name, OutOfMemory, Plain, PlainList};
 
-/// The settings of a session under which a procedure, a function, a view or a trigger was made. (MySQL 8.0
-/// Reference Manual, 15.1.17, 15.1.22, 15.1.23.)
+/// The settings of a session under which a procedure, a function, a view, a trigger or an event was made.
+/// (MySQL 8.0 Reference Manual, 15.1.13, 15.1.17, 15.1.22, 15.1.23.)
 #[derive(Drop)]
 pub struct Settings {
     /// The mode; a view's is empty.
@@ -15,6 +15,8 @@ pub struct Settings {
     pub client: Bytes,
     /// The collation of the connection.
     pub collation: Bytes,
+    /// The time zone of an event; empty for other kinds.
+    pub zone: Bytes,
 }
 
 impl Settings {
@@ -26,6 +28,7 @@ impl Settings {
             sql_mode: self.sql_mode.copy()?,
             client: self.client.copy()?,
             collation: self.collation.copy()?,
+            zone: self.zone.copy()?,
         })
     }
 }
@@ -73,7 +76,7 @@ impl Plain for Need {
 
 pub type NeedList = PlainList<Need>;
 
-/// A schema, table, view, procedure, function or trigger.
+/// A schema, table, view, procedure, function, trigger or event.
 #[derive(Drop)]
 pub struct Object {
     pub kind: Kind,
@@ -243,7 +246,7 @@ fn row_copy(
     table: &Name,
     row: &CellList,
 ) -> Result<(Name, Name, CellList), OutOfMemory>
-    ensures { IfOk result (λ made. (made.0 ≡ schema.now) × (made.1 ≡ table.now) × (made.2 ≡ row.now)) }
+    ensures { IfOk result (λ m. (m.0 ≡ schema.now) × (m.1 ≡ table.now) × (m.2 ≡ row.now)) }
 {
     Ok((schema.copy()?, table.copy()?, row.copy()?))
 }

@@ -1,6 +1,7 @@
 //! What a MySQL server holds, as plain data: objects and rows, the changes that transactions make, and
-//! histories of transactions; and the definitions of the database after a history, of agreement and of
-//! what a choice selects. `server_model` computes them. Nothing here talks to a server.
+//! histories of transactions; and the definitions of the database after a history, of agreement, of
+//! patterns of names and of what a choice selects. `server_model` computes them. Nothing here talks to
+//! a server.
 #![tactic(auto)]
 
 mod choice;
@@ -14,7 +15,8 @@ pub use data::{
     TableList, TableRows, Transaction,
 };
 pub use laws::{
-    a_history_is_its_prefix, one_after_the_other_interleaves, prefixes_of_prefixes,
-    what_steps_keep_holds_at_the_end,
+    a_history_is_its_prefix, an_object_equals_itself, kinds_are_told_apart,
+    one_after_the_other_interleaves, patterns_are_replaced, prefixes_of_prefixes,
+    settings_are_told_apart, what_steps_keep_holds_at_the_end,
 };
 pub use rows::{CellList, RowList};

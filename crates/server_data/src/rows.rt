@@ -1,4 +1,4 @@
-// Rows as lists of cells.
+//! Rows as lists of cells.
 ghost use Rattle.std.specs.Prelude.{◌≡◌, ◌∷◌, ◌++◌, [], IfOk, OnOk, OnErr};
 ghost use Rattle.std.specs.Borrow.{sem};
 ghost use Rattle.server_data.specs.Lending.{lends_cells};

@@ -1,38 +1,26 @@
 -- Agreement is what is tested at each member.
-use Rattle.std.proofs.Common.{◌≡◌, ℕ, Bool, true, false, ◌&&◌, ◌⊎◌, List, [], ◌∷◌, Option, Some, None, refl, sym, ◌∙◌, ap, inl, inr, Decides, bytes_eq}
+use Rattle.std.proofs.Common.{◌≡◌, ℕ, Bool, true, false, ◌&&◌, ◌⊎◌, List, [], ◌∷◌, Option, refl, sym, ◌∙◌, ap, inl, inr, bytes_eq}
 use Rattle.std.specs.Prelude.{count_by, IsTrue}
 use Rattle.std.specs.List.{list_all, list_any}
-use Rattle.std.proofs.lemmas.Slice.Eq.{bytes_eq-Decides, slice_eq-Decides}
 use Rattle.std.proofs.lemmas.Bool.Decides.{Decides-eqb}
-use Rattle.object_forms.specs.declared.kind.Kind.{Kind}
-use Rattle.object_forms.specs.declared.kind.Kind.TheVariants.{Schema, Table, Procedure, Function, View, Trigger}
+use Rattle.object_forms.specs.declared.kind.Kind.TheVariants.{Trigger}
 use Rattle.sql_cells.specs.declared.cell.Cell.{Cell}
-use Rattle.sql_cells.specs.declared.cell.Cell.TheVariants.{Null, Value}
 use Rattle.server_data.specs.Agree.{Agree, HasSameObjects, comes_before, is_before, is_trigger, object_eq, settings_eq}
 use Rattle.server_data.specs.Bag.{IsSameBag, count_of}
-use Rattle.server_data.specs.Equal.{cell_eq, kind_eq, row_eq}
+use Rattle.server_data.specs.Equal.{kind_eq, row_eq}
 use Rattle.server_data.specs.Fold.{is_need, is_of_table, rows_in, rows_of, table_of}
 use Rattle.server_model.specs.Members.{agrees, is_as_often, is_same, same_objects, same_order, same_pair, same_pairs, same_row, same_rows, same_table}
 use Rattle.server_data.specs.declared.data.Database.{Database}
 use Rattle.server_data.specs.declared.data.Object.{Object}
 use Rattle.server_data.specs.declared.data.Settings.{Settings}
 use Rattle.server_data.specs.declared.data.TableRows.{TableRows}
-use Rattle.server_data.proofs.Equals.{bytes_are, cell_eq-Decides, kind_is, row_is}
+use Rattle.server_data.proofs.Equals.{bytes_are, kind_is, row_is, settings_are}
 use Rattle.server_data.proofs.Counts.{alike, and_both, and_left, and_right, count_front, count_none, counted, equal, every, found, or_right, where_not}
 
 -- objects
 
 settings_alike : (a b c : Option Settings) → settings_eq a b ≡ true → settings_eq a c ≡ settings_eq b c
-settings_alike None None c e = refl
-settings_alike None (Some b) c e = absurd (cc)
-settings_alike (Some a) None c e = absurd (cc)
-settings_alike (Some a) (Some b) None e = refl
-settings_alike (Some a) (Some b) (Some c) e =
-    let after = and_right (bytes_eq a.sql_mode b.sql_mode) _ e in
-    let mode = bytes_are a.sql_mode b.sql_mode (and_left _ _ e) in
-    let client = bytes_are a.client b.client (and_left _ _ after) in
-    let collation = bytes_are a.collation b.collation (and_right (bytes_eq a.client b.client) _ after) in
-    rw (mode, client, collation) refl
+settings_alike a b c e = ap (λ (s : Option Settings). settings_eq s c) (settings_are a b e)
 
 -- an object that is the same as another is the same as those that the other is the same as
 object_alike : (one other : Object) → object_eq one other ≡ true → (object : Object) → object_eq one object ≡ object_eq other object

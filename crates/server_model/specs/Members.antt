@@ -3,10 +3,11 @@ use Rattle.std.specs.Prelude.{ℕ, ◌==◌, ◌&&◌, ◌||◌, not, if◌then�
 use Rattle.std.specs.List.{list_all}
 use Rattle.object_forms.specs.declared.kind.Kind.TheVariants.{Trigger}
 use Rattle.sql_cells.specs.declared.cell.Cell.{Cell}
-use Rattle.server_data.specs.Agree.{is_before, object_eq}
+use Rattle.server_data.specs.Agree.{object_eq}
 use Rattle.server_data.specs.Bag.{count_of}
 use Rattle.server_data.specs.Equal.{kind_eq}
-use Rattle.server_data.specs.Fold.{rows_of, table_of}
+use Rattle.server_data.specs.Fold.{rows_of}
+use Rattle.server_model.specs.Parts.{is_before_there}
 use Rattle.server_data.specs.declared.data.Database.{Database}
 use Rattle.server_data.specs.declared.data.Object.{Object}
 use Rattle.server_data.specs.declared.data.TableRows.{TableRows}
@@ -26,7 +27,7 @@ same_objects one other = list_all (is_as_often one.objects other.objects) one.ob
 -- two triggers are in the same order in both
 abbrev pub same_pair : Database → Database → Object → Object → Bool
 same_pair one other first second =
-    not (kind_eq second.kind Trigger) || is_same (is_before one (table_of first.needs).schema (table_of first.needs).name first.name second.name) (is_before other (table_of first.needs).schema (table_of first.needs).name first.name second.name)
+    not (kind_eq second.kind Trigger) || is_same (is_before_there one first second) (is_before_there other first second)
 
 -- a trigger and any of these are
 abbrev pub same_pairs : Database → Database → List Object → Object → Bool
@@ -48,5 +49,6 @@ same_table one other rows = list_all (same_row one other rows.table.schema rows.
 abbrev pub same_rows : Database → Database → Bool
 same_rows one other = list_all (same_table one other) one.rows && list_all (same_table one other) other.rows
 
+-- all of these are
 unfoldable pub agrees : Database → Database → Bool
 agrees one other = same_objects one other && (same_order one other && same_rows one other)

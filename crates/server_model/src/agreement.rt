@@ -1,9 +1,10 @@
-// Whether two databases agree.
-ghost use Rattle.std.specs.Prelude.{◌≡◌, ◌↔◌, ◌+◌, ◌&&◌, IsTrue, count_by, bytes_eq, if◌then◌else◌};
-ghost use Rattle.std.specs.List.{list_all, list_any};
+//! Whether two databases agree.
+ghost use Rattle.std.specs.Prelude.{◌≡◌, ◌↔◌, IsTrue, count_by};
+ghost use Rattle.std.specs.List.{list_all};
 ghost use Rattle.server_data.specs.Agree.{Agree, comes_before, is_before, is_trigger, object_eq, settings_eq};
 ghost use Rattle.server_data.specs.Bag.{count_of};
-ghost use Rattle.server_data.specs.Fold.{is_need, is_of_table, rows_in, rows_of, table_of};
+ghost use Rattle.server_data.specs.Fold.{is_need, rows_in, rows_of, table_of};
+ghost use Rattle.server_model.specs.Parts.{count_in_table, goes_before, has_after, is_before_there, is_trigger_after};
 ghost use Rattle.server_model.specs.Members.{agrees, is_as_often, is_same, same_objects, same_order, same_pair, same_pairs, same_row, same_rows, same_table};
 
 use crate::equal::{are_bytes, is_kind, is_row};
@@ -84,6 +85,7 @@ fn are_settings(one: &Option<Settings>, other: &Option<Settings>) -> bool
             are_bytes(one.sql_mode.as_slice(), other.sql_mode.as_slice())
                 && are_bytes(one.client.as_slice(), other.client.as_slice())
                 && are_bytes(one.collation.as_slice(), other.collation.as_slice())
+                && are_bytes(one.zone.as_slice(), other.zone.as_slice())
         }
         _ => false,
     }
@@ -130,7 +132,7 @@ fn same_pair(one: &Database, other: &Database, first: &Object, second: &Object) 
 
 // On the table of the first trigger.
 fn is_before_there(database: &Database, first: &Object, second: &Object) -> bool
-    ensures { result ≡ is_before database.now (table_of first.now.needs).schema (table_of first.now.needs).name first.now.name second.now.name }
+    ensures { result ≡ is_before_there database.now first.now second.now }
 {
     let (schema, table) = table_of(first.needs.as_slice());
     is_before(
@@ -159,13 +161,13 @@ fn goes_before(
     second: &[u8],
     one: &Object,
 ) -> bool
-    ensures { result ≡ (is_trigger schema.now table.now first.now one.now && list_any (λ other. is_trigger schema.now table.now second.now other && comes_before one.now other) objects.now) }
+    ensures { result ≡ goes_before schema.now table.now first.now second.now objects.now one.now }
 {
     is_trigger(schema, table, first, one) && has_after(objects, schema, table, second, one)
 }
 
 fn has_after(objects: &[Object], schema: &[u8], table: &[u8], second: &[u8], one: &Object) -> bool
-    ensures { result ≡ list_any (λ other. is_trigger schema.now table.now second.now other && comes_before one.now other) objects.now }
+    ensures { result ≡ has_after schema.now table.now second.now objects.now one.now }
 {
     objects.iter().any(|other| is_trigger_after(schema, table, second, one, other))
 }
@@ -177,7 +179,7 @@ fn is_trigger_after(
     one: &Object,
     other: &Object,
 ) -> bool
-    ensures { result ≡ (is_trigger schema.now table.now second.now other.now && comes_before one.now other.now) }
+    ensures { result ≡ is_trigger_after schema.now table.now second.now one.now other.now }
 {
     is_trigger(schema, table, second, other) && comes_before(one, other)
 }
@@ -269,7 +271,7 @@ fn count_in_tables(tables: &[TableRows], schema: &[u8], name: &[u8], row: &[Cell
 }
 
 fn count_in_table(one: &TableRows, schema: &[u8], name: &[u8], row: &[Cell]) -> usize
-    ensures { result ≡ (if is_of_table schema.now name.now one.now then count_of row.now one.now.rows else 0) }
+    ensures { result ≡ count_in_table schema.now name.now row.now one.now }
 {
     if is_of_table(schema, name, one) {
         count_in_rows(one.rows.as_slice(), row)

@@ -1,6 +1,6 @@
-// Whether kinds, bytes, cells and rows are equal.
+//! Whether kinds, bytes, cells and rows are equal.
 ghost use Rattle.std.specs.Prelude.{◌≡◌, bytes_eq};
-ghost use Rattle.server_data.specs.Equal.{cell_eq, kind_eq, row_eq};
+ghost use Rattle.server_data.specs.Equal.{cell_eq, kind_eq, kind_number, row_eq};
 
 use object_forms::Kind;
 use sql_cells::Cell;
@@ -8,14 +8,20 @@ use sql_cells::Cell;
 pub(crate) fn is_kind(one: Kind, other: Kind) -> bool
     ensures { result ≡ kind_eq one other }
 {
-    match (one, other) {
-        (Kind::Schema, Kind::Schema) => true,
-        (Kind::Table, Kind::Table) => true,
-        (Kind::Procedure, Kind::Procedure) => true,
-        (Kind::Function, Kind::Function) => true,
-        (Kind::View, Kind::View) => true,
-        (Kind::Trigger, Kind::Trigger) => true,
-        _ => false,
+    kind_number(one) == kind_number(other)
+}
+
+fn kind_number(kind: Kind) -> u8
+    ensures { result ≡ kind_number kind }
+{
+    match kind {
+        Kind::Schema => 0,
+        Kind::Table => 1,
+        Kind::Procedure => 2,
+        Kind::Function => 3,
+        Kind::View => 4,
+        Kind::Trigger => 5,
+        Kind::Event => 6,
     }
 }
 

@@ -1,4 +1,4 @@
-// What is in a database.
+//! What is in a database.
 ghost use Rattle.std.specs.Prelude.{◌≡◌};
 ghost use Rattle.server_data.specs.Fold.{has_object, has_schema, is_need, is_object, is_of_table, table_of};
 

@@ -1,10 +1,9 @@
-// The database after a history.
-ghost use Rattle.std.specs.Prelude.{◌≡◌, ◌++◌, IfOk, Some, None, filter, if◌then◌else◌, length, not};
+//! The database after a history.
+ghost use Rattle.std.specs.Prelude.{◌≡◌, IfOk};
 ghost use Rattle.std.specs.List.{list_any};
-ghost use Rattle.object_forms.specs.declared.kind.Kind.TheVariants.{Table};
 ghost use Rattle.server_data.specs.declared.data.Change.TheVariants.{Make, Drop, Put, Remove};
-ghost use Rattle.server_data.specs.Equal.{kind_eq};
-ghost use Rattle.server_data.specs.Fold.{change_db, changes_db, db, fits_row, has_object, has_place, is_object, is_of_table, is_plain, may_drop, may_make, plain_count, stands_in, table_of, takes_row, without_first, without_row};
+ghost use Rattle.server_data.specs.Fold.{changes_db, db, fits_row, has_place, is_plain, may_drop, may_make, plain_count, stands_in, table_of, takes_row, without_first, without_row};
+ghost use Rattle.server_model.specs.Parts.{Applied, Fitted, has_table_of, objects_without, rows_without, tables_after, tables_without};
 
 use crate::equal::{are_bytes, is_kind, is_row};
 use crate::find::{has_object, has_schema, is_object, is_of_table, table_of};
@@ -42,7 +41,7 @@ fn apply_all(
     database: &mut Database,
     changes: &[Change],
 ) -> Result<bool, OutOfMemory>
-    ensures { IfOk result (λ fits. changes_db database.old changes.now ≡ (if fits then Some database.new else None)) }
+    ensures { Fitted result (changes_db database.old changes.now) database.new }
 {
     let mut left = changes;
     'changes: while let [change, rest @ ..] = left {
@@ -55,7 +54,7 @@ fn apply_all(
 }
 
 fn apply(alloc: Global, database: &mut Database, change: &Change) -> Result<bool, OutOfMemory>
-    ensures { IfOk result (λ fits. change_db database.old change.now ≡ (if fits then Some database.new else None)) }
+    ensures { Applied result database.old change.now database.new }
 {
     match change {
         Change::Make(object) => make(database, object),
@@ -67,7 +66,7 @@ fn apply(alloc: Global, database: &mut Database, change: &Change) -> Result<bool
 
 #[tactic(auto, unfolding(server_data::specs::Fold::change_db))]
 fn make(database: &mut Database, object: &Object) -> Result<bool, OutOfMemory>
-    ensures { IfOk result (λ fits. change_db database.old (Make object.now) ≡ (if fits then Some database.new else None)) }
+    ensures { Applied result database.old (Make object.now) database.new }
 {
     if !may_make(database, object) {
         return Ok(false);
@@ -84,7 +83,7 @@ fn drop_object(
     schema: &Name,
     name: &Name,
 ) -> Result<bool, OutOfMemory>
-    ensures { IfOk result (λ fits. change_db database.old (Drop kind schema.now name.now) ≡ (if fits then Some database.new else None)) }
+    ensures { Applied result database.old (Drop kind schema.now name.now) database.new }
 {
     if !may_drop(database, kind, schema.as_slice(), name.as_slice()) {
         return Ok(false);
@@ -114,7 +113,7 @@ fn put(
     table: &Name,
     row: &CellList,
 ) -> Result<bool, OutOfMemory>
-    ensures { IfOk result (λ fits. change_db database.old (Put schema.now table.now row.now) ≡ (if fits then Some database.new else None)) }
+    ensures { Applied result database.old (Put schema.now table.now row.now) database.new }
 {
     if !fits_row(
         database,
@@ -144,7 +143,7 @@ fn remove(
     table: &Name,
     row: &CellList,
 ) -> Result<bool, OutOfMemory>
-    ensures { IfOk result (λ fits. change_db database.old (Remove schema.now table.now row.now) ≡ (if fits then Some database.new else None)) }
+    ensures { Applied result database.old (Remove schema.now table.now row.now) database.new }
 {
     if !has_object(database, Kind::Table, schema.as_slice(), table.as_slice()) {
         return Ok(false);
@@ -190,12 +189,13 @@ fn has_place(database: &Database, object: &Object) -> bool
             has_schema(database, object.schema.as_slice())
                 && has_table_of(database, object.needs.as_slice())
         }
+        Kind::Event => has_schema(database, object.schema.as_slice()),
     }
 }
 
 // The table that a trigger needs is there.
 fn has_table_of(database: &Database, needs: &[Need]) -> bool
-    ensures { result ≡ has_object database.now Table (table_of needs.now).schema (table_of needs.now).name }
+    ensures { result ≡ has_table_of database.now (table_of needs.now) }
 {
     let (schema, name) = table_of(needs);
     has_object(database, Kind::Table, schema, name)
@@ -259,7 +259,7 @@ fn objects_without(
     schema: &[u8],
     name: &[u8],
 ) -> Result<ObjectList, OutOfMemory>
-    ensures { IfOk result (λ made. made ≡ filter (λ object. not (is_object kind schema.now name.now object)) objects.now) }
+    ensures { IfOk result (λ made. made ≡ objects_without kind schema.now name.now objects.now) }
 {
     let mut made = PlainList::new(alloc);
     let mut left = objects;
@@ -278,7 +278,7 @@ fn tables_after(
     schema: &[u8],
     name: &[u8],
 ) -> Result<TableList, OutOfMemory>
-    ensures { IfOk result (λ made. made ≡ (if kind_eq kind Table then filter (λ rows. not (is_of_table schema.now name.now rows)) tables.now else tables.now)) }
+    ensures { IfOk result (λ made. made ≡ tables_after kind schema.now name.now tables.now) }
 {
     if is_kind(kind, Kind::Table) {
         tables_without(alloc, tables, schema, name)
@@ -296,7 +296,7 @@ fn tables_without(
     schema: &[u8],
     name: &[u8],
 ) -> Result<TableList, OutOfMemory>
-    ensures { IfOk result (λ made. made ≡ filter (λ rows. not (is_of_table schema.now name.now rows)) tables.now) }
+    ensures { IfOk result (λ made. made ≡ tables_without schema.now name.now tables.now) }
 {
     let mut made = PlainList::new(alloc);
     let mut left = tables;
@@ -330,14 +330,14 @@ fn without_first(
 }
 
 // The same where these are the rows of the table.
-fn taken_out(
+fn rows_without(
     alloc: Global,
     schema: &[u8],
     name: &[u8],
     row: &[Cell],
     rows: &TableRows,
 ) -> Result<Option<RowList>, OutOfMemory>
-    ensures { IfOk result (λ made. made ≡ (if is_of_table schema.now name.now rows.now then without_first row.now rows.now.rows else None)) }
+    ensures { IfOk result (λ made. made ≡ rows_without schema.now name.now row.now rows.now) }
 {
     if is_of_table(schema, name, rows) {
         without_first(alloc, row, rows.rows.as_slice())
@@ -369,7 +369,7 @@ fn without_row(
     let mut front = PlainList::new(alloc);
     let mut left = tables;
     'tables: while let [one, rest @ ..] = left {
-        let here = taken_out(alloc, schema, name, row, one)?;
+        let here = rows_without(alloc, schema, name, row, one)?;
         match here {
             Some(rows) => {
                 front.push(with_rows(one, rows)?)?;

@@ -1,6 +1,7 @@
 //! What a MySQL server holds, as plain data: objects and rows, the changes that transactions make, and
-//! histories of transactions. A history is folded to the database after it, databases are compared, and
-//! what a choice selects of one is taken out. Nothing here talks to a server.
+//! histories of transactions. A history is folded to the database after it, databases are compared, names
+//! are matched with patterns, and what a choice selects of a database is taken out. Nothing here talks to
+//! a server.
 #![tactic(auto)]
 
 mod agreement;
@@ -9,11 +10,13 @@ mod find;
 mod fold;
 mod lists;
 mod names;
+mod pattern;
 mod selection;
 
 pub use agreement::agree;
 pub use fold::replay;
 pub use names::escaped_length;
+pub use pattern::pattern_matches;
 pub use selection::select;
 pub use server_data::{
     CellList, Change, ChangeList, Choice, Database, History, Need, NeedList, Object, ObjectList,

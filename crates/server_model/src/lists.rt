@@ -1,4 +1,4 @@
-// Lists that are made of members of others.
+//! Lists that are made of members of others.
 ghost use Rattle.std.specs.Prelude.{◌≡◌, ◌∷◌, ◌++◌, [], OnOk, if◌then◌else◌};
 
 use plain_data::{OutOfMemory, Plain, PlainList};

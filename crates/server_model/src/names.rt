@@ -1,4 +1,4 @@
-// How long names are in the names of files.
+//! How long names are in the names of files.
 ghost use Rattle.std.specs.Prelude.{◌≡◌, ◌≤◌, length};
 ghost use Rattle.server_data.specs.Names.{escaped_name, escaped_byte, stands_as_it_is};
 

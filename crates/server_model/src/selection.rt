@@ -1,21 +1,22 @@
-// What a choice selects of a database.
-ghost use Rattle.std.specs.Prelude.{◌≡◌, None, filter, ◌||◌, IfOk, bytes_eq};
+//! What a choice selects of a database.
+ghost use Rattle.std.specs.Prelude.{◌≡◌, IfOk, bytes_eq};
 ghost use Rattle.std.specs.List.{list_any};
-ghost use Rattle.server_data.specs.Fold.{is_need, table_of};
-ghost use Rattle.server_data.specs.Select.{has_selected_table, is_empty, is_reserved, names_or_any, selection, selects_kind, selects_object, selects_rows, selects_schema, selects_table};
+ghost use Rattle.server_data.specs.Fold.{is_need};
+ghost use Rattle.server_data.specs.Select.{dotted, fits_pattern, is_empty, is_reserved, names_or_any, selection, selects_object, selects_rows, selects_schema, selects_table};
+ghost use Rattle.server_model.specs.Parts.{has_schema_or_any, has_table, has_table_or_any, selected_objects, selected_rows, selects_as_kind, selects_trigger};
 
 use crate::equal::are_bytes;
 use crate::find::{has_object, has_schema, is_need, table_of};
 use crate::lists::push_if;
+use crate::pattern::pattern_matches;
 use object_forms::Kind;
-use plain_data::{Name, OutOfMemory, PlainList};
+use plain_data::{Bytes, Name, OutOfMemory, PlainList};
 use server_data::{Choice, Database, Need, Object, ObjectList, TableList, TableRows};
 use std::alloc::Global;
 
 /// What the choice selects of the database: the objects in their order, and the rows of the
 /// selected tables. It is refused only for want of memory.
 pub fn select(alloc: Global, database: &Database, choice: &Choice) -> Result<Database, OutOfMemory>
-    requires no_pattern { choice.now.pattern ≡ None }
     ensures { IfOk result (λ made. made ≡ selection choice.now database.now) }
 {
     Ok(Database {
@@ -30,12 +31,16 @@ fn selected_objects(
     database: &Database,
     choice: &Choice,
 ) -> Result<ObjectList, OutOfMemory>
-    ensures { IfOk result (λ made. made ≡ filter (selects_object choice.now database.now) database.now.objects) }
+    ensures { IfOk result (λ made. made ≡ selected_objects choice.now database.now) }
 {
     let mut made = PlainList::new(alloc);
     let mut left = database.objects.as_slice();
     'objects: while let [object, rest @ ..] = left {
-        push_if(selects_object(choice, database, object), &mut made, object)?;
+        push_if(
+            selects_object(alloc, choice, database, object)?,
+            &mut made,
+            object,
+        )?;
         left = rest;
     }
     Ok(made)
@@ -47,77 +52,153 @@ fn selected_rows(
     database: &Database,
     choice: &Choice,
 ) -> Result<TableList, OutOfMemory>
-    ensures { IfOk result (λ made. made ≡ filter (selects_rows choice.now database.now) database.now.rows) }
+    ensures { IfOk result (λ made. made ≡ selected_rows choice.now database.now) }
 {
     let mut made = PlainList::new(alloc);
     let mut left = database.rows.as_slice();
     'tables: while let [rows, rest @ ..] = left {
-        push_if(selects_rows(choice, database, rows), &mut made, rows)?;
+        push_if(
+            selects_rows(alloc, choice, database, rows)?,
+            &mut made,
+            rows,
+        )?;
         left = rest;
     }
     Ok(made)
 }
 
-fn selects_object(choice: &Choice, database: &Database, object: &Object) -> bool
-    ensures { result ≡ selects_object choice.now database.now object.now }
+fn selects_object(
+    alloc: Global,
+    choice: &Choice,
+    database: &Database,
+    object: &Object,
+) -> Result<bool, OutOfMemory>
+    ensures { IfOk result (λ is. is ≡ selects_object choice.now database.now object.now) }
 {
-    !choice.no_schemas
-        && has_schema(database, object.schema.as_slice())
-        && selects_kind(choice, database, object)
+    if choice.no_schemas {
+        return Ok(false);
+    }
+    if !has_schema(database, object.schema.as_slice()) {
+        return Ok(false);
+    }
+    selects_kind(alloc, choice, database, object)
 }
 
-fn selects_kind(choice: &Choice, database: &Database, object: &Object) -> bool
-    ensures { result ≡ selects_kind choice.now database.now object.now object.now.kind }
+fn selects_kind(
+    alloc: Global,
+    choice: &Choice,
+    database: &Database,
+    object: &Object,
+) -> Result<bool, OutOfMemory>
+    ensures { IfOk result (λ is. is ≡ selects_as_kind choice.now database.now object.now) }
 {
+    let schema = object.schema.as_slice();
+    let name = object.name.as_slice();
     match object.kind {
-        Kind::Schema => selects_schema(choice, object.name.as_slice()),
-        Kind::Table => selects_table(choice, object.schema.as_slice(), object.name.as_slice()),
-        Kind::View => selects_table(choice, object.schema.as_slice(), object.name.as_slice()),
-        Kind::Procedure => choice.routines && selects_schema(choice, object.schema.as_slice()),
-        Kind::Function => choice.routines && selects_schema(choice, object.schema.as_slice()),
-        Kind::Trigger => {
-            choice.triggers && has_table_of(choice, database, object.needs.as_slice())
+        Kind::Schema => Ok(selects_schema(choice, name)),
+        Kind::Table => selects_table(alloc, choice, schema, name),
+        Kind::View => selects_table(alloc, choice, schema, name),
+        Kind::Procedure => Ok(choice.routines && selects_schema(choice, schema)),
+        Kind::Function => Ok(choice.routines && selects_schema(choice, schema)),
+        Kind::Trigger => selects_trigger(alloc, choice, database, object.needs.as_slice()),
+        Kind::Event => Ok(choice.events && selects_schema(choice, schema)),
+    }
+}
+
+// Triggers are selected, and the table of this one is.
+fn selects_trigger(
+    alloc: Global,
+    choice: &Choice,
+    database: &Database,
+    needs: &[Need],
+) -> Result<bool, OutOfMemory>
+    ensures { IfOk result (λ is. is ≡ selects_trigger choice.now database.now needs.now) }
+{
+    if !choice.triggers {
+        return Ok(false);
+    }
+    let (schema, name) = table_of(needs);
+    has_table(alloc, choice, database, schema, name)
+}
+
+fn selects_rows(
+    alloc: Global,
+    choice: &Choice,
+    database: &Database,
+    rows: &TableRows,
+) -> Result<bool, OutOfMemory>
+    ensures { IfOk result (λ is. is ≡ selects_rows choice.now database.now rows.now) }
+{
+    if choice.no_data {
+        return Ok(false);
+    }
+    let schema = rows.table.schema.as_slice();
+    has_table(alloc, choice, database, schema, rows.table.name.as_slice())
+}
+
+// The table is there and selected.
+fn has_table(
+    alloc: Global,
+    choice: &Choice,
+    database: &Database,
+    schema: &[u8],
+    name: &[u8],
+) -> Result<bool, OutOfMemory>
+    ensures { IfOk result (λ is. is ≡ has_table choice.now database.now schema.now name.now) }
+{
+    if !selects_table(alloc, choice, schema, name)? {
+        return Ok(false);
+    }
+    Ok(has_schema(database, schema) && has_object(database, Kind::Table, schema, name))
+}
+
+fn selects_table(
+    alloc: Global,
+    choice: &Choice,
+    schema: &[u8],
+    name: &[u8],
+) -> Result<bool, OutOfMemory>
+    ensures { IfOk result (λ is. is ≡ selects_table choice.now schema.now name.now) }
+{
+    if !selects_schema(choice, schema) {
+        return Ok(false);
+    }
+    if !tables_name(choice.tables.as_slice(), schema, name) {
+        return Ok(false);
+    }
+    fits_pattern(alloc, &choice.pattern, schema, name)
+}
+
+// There is no pattern, or it matches the schema, a dot and the name.
+fn fits_pattern(
+    alloc: Global,
+    pattern: &Option<Bytes>,
+    schema: &[u8],
+    name: &[u8],
+) -> Result<bool, OutOfMemory>
+    ensures { IfOk result (λ is. is ≡ fits_pattern pattern.now (dotted schema.now name.now)) }
+{
+    match pattern {
+        None => Ok(true),
+        Some(pattern) => {
+            let place = dotted(alloc, schema, name)?;
+            Ok(pattern_matches(pattern.as_slice(), place.as_slice()))
         }
     }
 }
 
-// The table of a trigger is a selected one.
-fn has_table_of(choice: &Choice, database: &Database, needs: &[Need]) -> bool
-    ensures { result ≡ has_selected_table choice.now database.now (table_of needs.now).schema (table_of needs.now).name }
+fn dotted(alloc: Global, schema: &[u8], name: &[u8]) -> Result<Bytes, OutOfMemory>
+    ensures { IfOk result (λ made. made ≡ dotted schema.now name.now) }
 {
-    let (schema, name) = table_of(needs);
-    has_table(choice, database, schema, name)
-}
-
-fn selects_rows(choice: &Choice, database: &Database, rows: &TableRows) -> bool
-    ensures { result ≡ selects_rows choice.now database.now rows.now }
-{
-    !choice.no_data
-        && has_table(
-            choice,
-            database,
-            rows.table.schema.as_slice(),
-            rows.table.name.as_slice(),
-        )
-}
-
-fn has_table(choice: &Choice, database: &Database, schema: &[u8], name: &[u8]) -> bool
-    ensures { result ≡ has_selected_table choice.now database.now schema.now name.now }
-{
-    selects_table(choice, schema, name)
-        && has_schema(database, schema)
-        && has_object(database, Kind::Table, schema, name)
-}
-
-fn selects_table(choice: &Choice, schema: &[u8], name: &[u8]) -> bool
-    ensures { result ≡ selects_table choice.now schema.now name.now }
-{
-    selects_schema(choice, schema) && tables_name(choice.tables.as_slice(), schema, name)
+    let mut items = schema.to_vec(alloc)?;
+    items.push(b'.')?;
+    items.extend_from_slice(name)?;
+    Ok(Bytes::from_vec(alloc, items))
 }
 
 // The list is empty, or names the table.
 fn tables_name(tables: &[Need], schema: &[u8], name: &[u8]) -> bool
-    ensures { result ≡ (is_empty tables.now || list_any (is_need schema.now name.now) tables.now) }
+    ensures { result ≡ has_table_or_any schema.now name.now tables.now }
 {
     is_empty(tables) || any_is_need(tables, schema, name)
 }
@@ -147,7 +228,7 @@ fn selects_schema(choice: &Choice, schema: &[u8]) -> bool
 
 // The list is empty, or names a table in the schema.
 fn tables_are_in(tables: &[Need], schema: &[u8]) -> bool
-    ensures { result ≡ (is_empty tables.now || list_any (λ need. bytes_eq need.schema schema.now) tables.now) }
+    ensures { result ≡ has_schema_or_any schema.now tables.now }
 {
     is_empty(tables) || any_is_in(tables, schema)
 }
