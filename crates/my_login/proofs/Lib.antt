@@ -1,3 +1,4 @@
+mod Numbers
 pub mod Responses
 mod Sizes
 mod Xors

@@ -1,4 +1,4 @@
-// The answer to a scramble.
+//! The answer to a scramble.
 ghost use Rattle.std.specs.Prelude.{◌≡◌, ◌++◌};
 ghost use Rattle.sha1.specs.Sha1.{sha1};
 ghost use Rattle.wire_forms.specs.Answer.{xor_of, native_answer};

@@ -1,11 +1,12 @@
-// The greeting of a server.
+//! The greeting of a server.
 ghost use Rattle.std.specs.Prelude.{◌≡◌, ◌≤◌, ◌+◌, ◌++◌, length, take, drop, option_copied};
-ghost use Rattle.wire_forms.specs.Greeting.{capabilities, offers, second_size, are_fields, scramble_of, plugin_name, plugin_of, after_version, after_protocol, greeting_of};
+ghost use Rattle.wire_forms.specs.Greeting.{capabilities, offers, second_size, are_fields, scramble_of, plugin_name, plugin_of, ends_of, after_version, after_protocol, greeting_of};
 
 use crate::payload::LoginMessage;
 use crate::texts::{NATIVE_PASSWORD, text_size, to_zero};
+use crate::version::is_newer;
 use result_rows::refusal_read;
-use wire_forms::{Greeting, LoginFault, ShortText};
+use wire_forms::{Ends, Greeting, LoginFault, ShortText};
 
 impl LoginMessage for Greeting {
     ghost reading = { greeting_of };
@@ -13,8 +14,9 @@ impl LoginMessage for Greeting {
     /// Reads a server's first message. It is a greeting of protocol version 10 that offers protocol 41
     /// (0x200) and scrambles of twenty bytes (0x8000). `NotProtocol10` exactly where its first byte is
     /// neither 10 nor 255, `Refused` exactly where it is an ERR, and `Garbled` wherever else it is no
-    /// such greeting, as where it is empty. Takes no memory. (MySQL source documentation,
-    /// `Protocol::HandshakeV10`, `ERR_Packet`.)
+    /// such greeting, as where it is empty. Its result sets may end by an OK exactly where it offers
+    /// that (0x1000000). Takes no memory. (MySQL source documentation, `Protocol::HandshakeV10`,
+    /// `ERR_Packet`, `CLIENT_DEPRECATE_EOF`.)
     fn read(payload: &[u8]) -> Result<Greeting, LoginFault> {
         match payload {
             [] => Err(LoginFault::Garbled),
@@ -48,6 +50,8 @@ fn after_version(version: &[u8], bytes: &[u8]) -> Option<Greeting>
         version: ShortText::of(version),
         scramble: scramble_of(bytes),
         plugin: ShortText::of(plugin),
+        ends: ends_of(bytes),
+        newer: is_newer(version),
     })
 }
 
@@ -69,6 +73,19 @@ fn offers(bytes: &[u8], wanted: u32) -> bool
 {
     let capabilities = u32::from_le_bytes([bytes[13], bytes[14], bytes[18], bytes[19]]);
     capabilities & wanted == wanted
+}
+
+// How result sets end: by an OK where that is offered.
+fn ends_of(bytes: &[u8]) -> Ends
+    requires there { 44 ≤ length bytes.now }
+
+    ensures { result ≡ ends_of bytes.now }
+{
+    if offers(bytes, 0x100_0000) {
+        Ends::Ok
+    } else {
+        Ends::Eof
+    }
 }
 
 // The size of the scramble's second part.

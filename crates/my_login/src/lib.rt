@@ -9,8 +9,9 @@ mod payload;
 mod response;
 mod switch;
 mod texts;
+mod version;
 
 pub use answer::native_answer;
 pub use payload::LoginMessage;
 pub use response::response_into;
-pub use wire_forms::{Greeting, LoginFault, Switch};
+pub use wire_forms::{Ends, Greeting, LoginFault, Switch};

@@ -1,4 +1,4 @@
-// Messages of the server in a login, which are read from their payloads.
+//! Messages of the server in a login, which are read from their payloads.
 ghost use Rattle.std.specs.Prelude.{◌≡◌, ℕ, List, Result};
 ghost use Rattle.wire_forms.specs.declared.login_fault.LoginFault.{LoginFault};
 

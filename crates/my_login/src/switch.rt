@@ -1,4 +1,4 @@
-// Requests for another plugin.
+//! Requests for another plugin.
 ghost use Rattle.std.specs.Prelude.{◌≡◌};
 ghost use Rattle.wire_forms.specs.Switch.{new_scramble, switch_to, after_request, switch_of};
 

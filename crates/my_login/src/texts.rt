@@ -1,4 +1,4 @@
-// Texts that end at a 00, and the scrambles' bytes.
+//! Texts that end at a 00, and the scrambles' bytes.
 ghost use Rattle.std.specs.Prelude.{◌≡◌, ◌≤◌, ◌+◌, ◌==◌, length, drop, position, option_map};
 ghost use Rattle.wire_forms.specs.Texts.{text_size, to_zero};
 

@@ -1,4 +1,4 @@
-// The packets of a message.
+//! The packets of a message.
 ghost use Rattle.std.specs.Prelude.{◌≡◌, ◌+◌, ◌<◌, ◌≤◌, ◌++◌, length, vec_len, vec_capacity, IfOk, IsOk, OnOk, OnErr};
 ghost use Rattle.wire_forms.specs.Packet.{packet, packet_header, packet_count, packets, id_after};
 

@@ -1,4 +1,4 @@
-// Laws of length-encoded integers and packets: the contract of each function is one of them.
+//! Laws of length-encoded integers and packets: the contract of each function is one of them.
 ghost use Rattle.my_packets.specs.Laws.{LenencIsReadBack, PacketsArePrefixFree, AFrontIsOneThing};
 
 /// A law: the shortest spelling of a number below 2 ^ 64, whatever follows it, is read as that

@@ -1,4 +1,4 @@
-// Length-encoded integers.
+//! Length-encoded integers.
 ghost use Rattle.std.specs.Prelude.{◌≡◌, ◌++◌, OnOk, OnErr};
 ghost use Rattle.wire_forms.specs.Lenenc.{lenenc, lenenc_of};
 

@@ -1,4 +1,4 @@
-// A message of which the front is kept.
+//! A message of which the front is kept.
 ghost use Rattle.std.specs.Prelude.{ℕ, List, ◌≡◌, ◌+◌, ◌≤◌, ◌++◌, [], length, take, min};
 ghost use Rattle.my_packets.specs.Front.{Wants};
 ghost use Rattle.wire_forms.specs.Packet.{packet_header, packets};

@@ -2,6 +2,7 @@
 use Rattle.std.specs.Prelude.{ℕ, ◌≡◌, ◌==◌, if◌then◌else◌, List, [], ◌∷◌, Option, Some, None, Result, Ok, Err}
 use Rattle.wire_forms.specs.Reading.{Reading, Further, definition, row, end, refused, garbled, columns_counted, idle}
 use Rattle.result_rows.specs.RowCells.{row_cells}
+use Rattle.wire_forms.specs.declared.ends.Ends.{Ends}
 use Rattle.wire_forms.specs.declared.reply.Reply.{Reply}
 use Rattle.wire_forms.specs.declared.reply.Reply.TheVariants.{Done, Refused, Columns}
 use Rattle.result_rows.specs.declared.reader.ReplyFault.{ReplyFault}
@@ -14,12 +15,12 @@ abbrev pub unspelled : List ℕ → ReplyFault
 unspelled [] = Garbled
 unspelled (byte ∷ bytes) = if byte == 251 then LocalInfile else Garbled
 
--- the answer to a reply's first message, and what is pending after it
-abbrev pub IsReply : List ℕ → Option Reply → Result Reply ReplyFault → Reading → Type 0
-IsReply payload None result new = (result ≡ Err (unspelled payload)) × (new ≡ idle)
-IsReply payload (Some Done) result new = (result ≡ Ok Done) × (new ≡ idle)
-IsReply payload (Some (Refused refusal)) result new = (result ≡ Ok (Refused refusal)) × (new ≡ idle)
-IsReply payload (Some (Columns count)) result new = (result ≡ Ok (Columns count)) × (new ≡ columns_counted count)
+-- the answer to a reply's first message, and what is pending after it, where result sets end so
+abbrev pub IsReply : Ends → List ℕ → Option Reply → Result Reply ReplyFault → Reading → Type 0
+IsReply ends payload None result new = (result ≡ Err (unspelled payload)) × (new ≡ idle ends)
+IsReply ends payload (Some Done) result new = (result ≡ Ok Done) × (new ≡ idle ends)
+IsReply ends payload (Some (Refused refusal)) result new = (result ≡ Ok (Refused refusal)) × (new ≡ idle ends)
+IsReply ends payload (Some (Columns count)) result new = (result ≡ Ok (Columns count)) × (new ≡ columns_counted ends count)
 
 -- the answer to a further message, which began at this place of the stream
 abbrev pub IsTurn : ℕ → Result Turn ReplyFault → Further → Type 0

@@ -1,10 +1,13 @@
-// The fields of the packets that a reply consists of.
+//! The fields of the packets that a reply consists of.
 ghost use Rattle.std.specs.Prelude.{◌≡◌, option_map, option_copied};
 ghost use Rattle.wire_forms.specs.Row.{front_of, string_of};
 ghost use Rattle.wire_forms.specs.Definition.{after_strings, is_fixed_part, is_definition, column_count};
-ghost use Rattle.wire_forms.specs.Reply.{after_number, is_ok_packet, is_eof_packet};
+ghost use Rattle.wire_forms.specs.Reply.{after_number, are_ok_fields, is_ok_packet, is_ending_ok, is_eof_packet};
 
 use my_packets::lenenc_read;
+
+// A message of so many bytes fills a packet.
+pub(crate) const FULL_SIZE: usize = 16_777_215;
 
 // So many bytes at the front, and the rest, where there are so many.
 #[inline]
@@ -75,20 +78,39 @@ fn after_number(bytes: &[u8]) -> Option<&[u8]>
     Some(&bytes[size..])
 }
 
-/// Whether this is an OK packet: 0x00, affected rows and last insert id length-encoded, two bytes of
-/// status, two of warnings, then anything. Takes no memory. (MySQL source documentation, `OK_Packet`.)
-pub fn is_ok_packet(payload: &[u8]) -> bool
-    ensures { result ≡ is_ok_packet payload.now }
+// Whether these are the fields of an OK after its first byte: affected rows and last insert id
+// length-encoded, two bytes of status, two of warnings, then anything.
+fn are_ok_fields(bytes: &[u8]) -> bool
+    ensures { result ≡ are_ok_fields bytes.now }
 {
-    let [0x00, numbers @ ..] = payload else {
-        return false;
-    };
-    let Some(insert_id) = after_number(numbers) else {
+    let Some(insert_id) = after_number(bytes) else {
         return false;
     };
     match after_number(insert_id) {
         Some(status) => 4 <= status.len(),
         None => false,
+    }
+}
+
+/// Whether this is an OK packet: 0x00, affected rows and last insert id length-encoded, two bytes of
+/// status, two of warnings, then anything. Takes no memory. (MySQL source documentation, `OK_Packet`.)
+pub fn is_ok_packet(payload: &[u8]) -> bool
+    ensures { result ≡ is_ok_packet payload.now }
+{
+    match payload {
+        [0x00, fields @ ..] => are_ok_fields(fields),
+        _ => false,
+    }
+}
+
+// Whether this is an OK in place of an EOF: 0xfe and the fields of an OK, fewer bytes in all than a
+// full packet has.
+pub(crate) fn is_ending_ok(payload: &[u8]) -> bool
+    ensures { result ≡ is_ending_ok payload.now }
+{
+    match payload {
+        [0xfe, fields @ ..] => payload.len() < FULL_SIZE && are_ok_fields(fields),
+        _ => false,
     }
 }
 

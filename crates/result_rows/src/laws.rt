@@ -1,11 +1,11 @@
-// What the reader's steps come to over whole messages.
+//! What the reader's steps come to over whole messages.
 ghost use Rattle.wire_forms.specs.Reply.{AFrontTellsAReply};
 ghost use Rattle.wire_forms.specs.ResultSet.{ResultSetsAreTaken};
 
 /// The messages of a whole result set are exactly those that a [`RowReader`](crate::RowReader) takes
 /// for one: a number of columns from [`RowReader::first`](crate::RowReader::first), and from
-/// [`RowReader::more`](crate::RowReader::more) the definitions and the EOF after them, the rows in
-/// order, and the end.
+/// [`RowReader::more`](crate::RowReader::more) the definitions, the EOF after them where result sets
+/// end by EOF packets, the rows in order, and the end.
 pub fn a_whole_result_set_is_what_the_reader_takes()
     ensures { ResultSetsAreTaken }
 {}

@@ -13,4 +13,4 @@ pub use laws::{a_front_tells_a_reply, a_whole_result_set_is_what_the_reader_take
 pub use reader::{ReplyFault, RowReader, Turn};
 pub use refusal::refusal_read;
 pub use row::{Cells, Row};
-pub use wire_forms::{Refusal, Reply, ShortText};
+pub use wire_forms::{Ends, Refusal, Reply, ShortText};

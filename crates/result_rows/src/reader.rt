@@ -1,18 +1,20 @@
-// Replies, message by message.
-ghost use Rattle.std.specs.Prelude.{◌≡◌, ◌<◌, nat_lt, Some, IsSome};
+//! Replies, message by message.
+ghost use Rattle.std.specs.Prelude.{◌≡◌, ◌<◌, ◌≤◌, nat_lt, Some, IsSome};
 ghost use Rattle.wire_forms.specs.Reply.{reply_of};
-ghost use Rattle.wire_forms.specs.Reading.{idle, columns_counted, row_of, further_of, reading_after};
+ghost use Rattle.wire_forms.specs.Reading.{idle, columns_counted, awaited_count, is_before_rows, end_limit, is_in_ends_place, is_end_packet, row_of, further_of, reading_after};
 ghost use Rattle.wire_forms.specs.Row.{cells_of};
 ghost use Rattle.result_rows.specs.RowCells.{row_cells};
 ghost use Rattle.result_rows.specs.Turns.{IsReply, IsTurn};
 
-use crate::fields::{column_count, is_definition, is_eof_packet, is_ok_packet};
+use crate::fields::{
+    FULL_SIZE, column_count, is_definition, is_ending_ok, is_eof_packet, is_ok_packet,
+};
 use crate::refusal::refusal_read;
 use crate::row::Row;
 use my_packets::Message;
 use std::marker::Model;
 use thiserror::Error;
-use wire_forms::{Refusal, Reply};
+use wire_forms::{Ends, Refusal, Reply};
 
 /// A further message of a result set.
 #[derive(Drop)]
@@ -21,7 +23,7 @@ pub enum Turn<'a> {
     Definition,
     /// A row.
     Row(Row<'a>),
-    /// The EOF after the rows.
+    /// The EOF or the OK after the rows.
     End,
     /// An ERR in place of a row, which ends the result set.
     Refused(Refusal),
@@ -39,12 +41,13 @@ pub enum ReplyFault {
     LocalInfile,
 }
 
-/// A reader of replies, which knows how many messages of a result set are still awaited before its
-/// rows. It holds no bytes.
+/// A reader of replies, which knows how result sets end, and how many messages of one are still awaited
+/// before its rows. It holds no bytes.
 #[derive(Clone, Copy)]
 pub struct RowReader {
     columns: u32,
     awaited: u32,
+    ends: Ends,
 }
 
 impl Model for RowReader {
@@ -52,19 +55,21 @@ impl Model for RowReader {
 
     ghost Value = { Reading };
 
-    ghost view = { λ reader. record { columns = reader.columns; awaited = reader.awaited } };
+    ghost view = { λ reader. record { columns = reader.columns; awaited = reader.awaited; ends = reader.ends } };
 
-    ghost inverse = { λ reading. record { columns = reading.columns; awaited = reading.awaited } };
+    ghost inverse = { λ reading. record { columns = reading.columns; awaited = reading.awaited; ends = reading.ends } };
 }
 
 impl RowReader {
-    /// A reader that waits for the first message of a reply. Takes no memory.
-    pub fn new() -> RowReader
-        ensures { result ≡ idle }
+    /// A reader that waits for the first message of a reply, on a session whose result sets end so.
+    /// Takes no memory.
+    pub fn new(ends: Ends) -> RowReader
+        ensures { result ≡ idle ends }
     {
         RowReader {
             columns: 0,
             awaited: 0,
+            ends,
         }
     }
 
@@ -73,7 +78,7 @@ impl RowReader {
     /// begin so. After `Columns` the messages of a result set are pending, after any other answer
     /// nothing is. Takes no memory.
     pub fn first(&mut self, payload: &[u8]) -> Result<Reply, ReplyFault>
-        ensures { IsReply payload.now (reply_of payload.now) result self.new }
+        ensures { IsReply self.old.ends payload.now (reply_of payload.now) result self.new }
     {
         self.columns = 0;
         self.awaited = 0;
@@ -88,7 +93,7 @@ impl RowReader {
             _ => {
                 let columns = column_count(payload).ok_or(ReplyFault::Garbled)?;
                 self.columns = columns;
-                self.awaited = columns + 1;
+                self.awaited = awaited_count(self.ends, columns);
                 Ok(Reply::Columns(columns))
             }
         }
@@ -103,8 +108,13 @@ impl RowReader {
     }
 
     /// Reads a further message of a result set. The condition is that one is pending
-    /// ([`RowReader::is_pending`]). `Garbled` exactly where it is none of those that may follow, and
-    /// then the reader stays as it was. After `End` and `Refused` nothing is pending. Takes no memory.
+    /// ([`RowReader::is_pending`]). Before the rows it is a column definition, or the EOF after the
+    /// definitions where result sets end by EOF packets. In a row's place a message that begins with
+    /// 0xfe is the end: where result sets end by EOF packets if it has fewer than 9 bytes, and else if
+    /// it has fewer than 16,777,215; one that begins with 0xff is an ERR, and any other one a row.
+    /// `Garbled` exactly where it is none of those that may follow, and then the reader stays as it
+    /// was. After `End` and `Refused` nothing is pending. Takes no memory. (MySQL source documentation,
+    /// `ProtocolText::Resultset`, `OK_Packet`.)
     #[inline]
     pub fn more<'a>(&mut self, message: Message<'a>) -> Result<Turn<'a>, ReplyFault>
         requires pending { 0 < self.old.columns }
@@ -115,12 +125,7 @@ impl RowReader {
         if self.awaited == 0 {
             return self.row(message);
         }
-        let found = if self.awaited == 1 {
-            is_eof_packet(message.payload)
-        } else {
-            is_definition(message.payload)
-        };
-        if !found {
+        if !is_before_rows(self.ends, self.awaited, message.payload) {
             return Err(ReplyFault::Garbled);
         }
         self.awaited -= 1;
@@ -142,20 +147,20 @@ impl RowReader {
     // Reads a message in a row's place.
     #[inline]
     fn row<'a>(&mut self, message: Message<'a>) -> Result<Turn<'a>, ReplyFault>
-        ensures turn { IsTurn message.entry.place result (row_of self.old.columns message.entry.payload.now) }
-        ensures after { self.new ≡ reading_after self.old (row_of self.old.columns message.entry.payload.now) }
+        ensures turn { IsTurn message.entry.place result (row_of self.old.ends self.old.columns message.entry.payload.now) }
+        ensures after { self.new ≡ reading_after self.old (row_of self.old.ends self.old.columns message.entry.payload.now) }
     {
-        match message.payload {
-            [0xfe, rest @ ..] if rest.len() < 8 => {
-                if !is_eof_packet(message.payload) {
-                    return Err(ReplyFault::Garbled);
-                }
-                *self = RowReader::new();
-                Ok(Turn::End)
+        if is_in_ends_place(self.ends, message.payload) {
+            if !is_end_packet(self.ends, message.payload) {
+                return Err(ReplyFault::Garbled);
             }
+            *self = RowReader::new(self.ends);
+            return Ok(Turn::End);
+        }
+        match message.payload {
             [0xff, ..] => match refusal_read(message.payload) {
                 Some(refusal) => {
-                    *self = RowReader::new();
+                    *self = RowReader::new(self.ends);
                     Ok(Turn::Refused(refusal))
                 }
                 None => Err(ReplyFault::Garbled),
@@ -166,5 +171,60 @@ impl RowReader {
                 None => Err(ReplyFault::Garbled),
             },
         }
+    }
+}
+
+// How many messages stand before the rows of so many columns.
+fn awaited_count(ends: Ends, columns: u32) -> u32
+    requires few { columns ≤ 65535 }
+
+    ensures { result ≡ awaited_count ends columns }
+{
+    match ends {
+        Ends::Eof => columns + 1,
+        Ends::Ok => columns,
+    }
+}
+
+// Whether this is a message before the rows, where so many are awaited.
+fn is_before_rows(ends: Ends, awaited: u32, message: &[u8]) -> bool
+    ensures { result ≡ is_before_rows ends awaited message.now }
+{
+    match ends {
+        Ends::Eof if awaited == 1 => is_eof_packet(message),
+        Ends::Eof => is_definition(message),
+        Ends::Ok => is_definition(message),
+    }
+}
+
+// In a row's place a message that begins with 0xfe is an end where it has fewer bytes than this.
+#[inline]
+fn end_limit(ends: Ends) -> usize
+    ensures { result ≡ end_limit ends }
+{
+    match ends {
+        Ends::Eof => 9,
+        Ends::Ok => FULL_SIZE,
+    }
+}
+
+// Whether a message is in the end's place, by its first byte and its length.
+#[inline]
+fn is_in_ends_place(ends: Ends, message: &[u8]) -> bool
+    ensures { result ≡ is_in_ends_place ends message.now }
+{
+    match message {
+        [0xfe, ..] => message.len() < end_limit(ends),
+        _ => false,
+    }
+}
+
+// Whether this is the packet after the rows.
+fn is_end_packet(ends: Ends, message: &[u8]) -> bool
+    ensures { result ≡ is_end_packet ends message.now }
+{
+    match ends {
+        Ends::Eof => is_eof_packet(message),
+        Ends::Ok => is_ending_ok(message),
     }
 }

@@ -1,4 +1,4 @@
-// ERR packets.
+//! ERR packets.
 ghost use Rattle.std.specs.Prelude.{◌≡◌};
 ghost use Rattle.wire_forms.specs.Reply.{refusal_of, refusal_of_code};
 

@@ -1,4 +1,4 @@
-// Rows, and their cells one after the other.
+//! Rows, and their cells one after the other.
 ghost use Rattle.std.specs.Prelude.{◌≡◌, ◌<◌, length, is_some, IsSome, slice_index_or, MatchOption, Some, None, option_map, option_copied};
 ghost use Rattle.wire_forms.specs.Row.{cell_of, cells_of};
 

@@ -1,9 +1,12 @@
 -- Messages of logins (MySQL source documentation, Protocol::HandshakeV10, Protocol::HandshakeResponse41, Protocol::AuthSwitchRequest).
-use Rattle.std.specs.Prelude.{ℕ, ◌≡◌, List, [], ◌∷◌, ◌++◌, Some, None, Ok, Err, codes}
+use Rattle.std.specs.Prelude.{ℕ, ◌≡◌, List, [], ◌∷◌, ◌++◌, true, false, Option, Some, None, option_map, Ok, Err, codes}
+use Rattle.std.specs.Result.{result_ok}
 use Rattle.wire_forms.specs.KeptText.{kept_text}
 use Rattle.wire_forms.specs.Greeting.{greeting_of}
 use Rattle.wire_forms.specs.Response.{response}
 use Rattle.wire_forms.specs.Switch.{switch_of}
+use Rattle.wire_forms.specs.declared.ends.Ends.TheVariants.{Eof, Ok as OkEnds}
+use Rattle.wire_forms.specs.declared.greeting.Greeting.{Greeting}
 use Rattle.wire_forms.specs.declared.login_fault.LoginFault.TheVariants.{NotProtocol10, PluginUnsupported, Refused, Garbled}
 
 abbrev pub zero_byte : List ℕ
@@ -17,8 +20,8 @@ greeting_front = 10 ∷ codes "8.0.35" ++ 0 ∷ 8 ∷ 0 ∷ 0 ∷ 0 ∷ codes "a
 abbrev pub greeting_end : List ℕ
 greeting_end = 21 ∷ 0 ∷ 0 ∷ 0 ∷ 0 ∷ 0 ∷ 0 ∷ 0 ∷ 0 ∷ 0 ∷ 0 ∷ codes "ijklmnopqrst" ++ zero_byte
 
--- capabilities 0xdfffffff with plugins, 0xdff7ffff without, 0xdfff7fff without a scramble of twenty bytes; between them stand the character
--- set and the status
+-- capabilities 0xdfffffff with plugins, 0xdff7ffff without, 0xdfff7fff without a scramble of twenty bytes, 0xdeffffff without CLIENT_DEPRECATE_EOF;
+-- between their halves stand the character set and the status
 abbrev pub greeting : List ℕ
 greeting = greeting_front ++ 255 ∷ 255 ∷ 255 ∷ 2 ∷ 0 ∷ 255 ∷ 223 ∷ greeting_end
 
@@ -28,10 +31,19 @@ plain_greeting = greeting_front ++ 255 ∷ 255 ∷ 255 ∷ 2 ∷ 0 ∷ 247 ∷ 2
 abbrev pub old_greeting : List ℕ
 old_greeting = greeting_front ++ 255 ∷ 127 ∷ 255 ∷ 2 ∷ 0 ∷ 255 ∷ 223 ∷ greeting_end
 
+abbrev pub eof_greeting : List ℕ
+eof_greeting = greeting_front ++ 255 ∷ 255 ∷ 255 ∷ 2 ∷ 0 ∷ 255 ∷ 222 ∷ greeting_end
+
+-- a greeting of version 8.2.0
+abbrev pub newer_greeting : List ℕ
+newer_greeting = 10 ∷ codes "8.2.0" ++ 0 ∷ 8 ∷ 0 ∷ 0 ∷ 0 ∷ codes "abcdefgh" ++ 0 ∷ 255 ∷ 255 ∷ 255 ∷ 2 ∷ 0 ∷ 255 ∷ 223 ∷ greeting_end
+
 -- What a server's first messages say.
 pub record Greetings : Type 0 where
-  pub of_mysql : greeting_of (greeting ++ codes "caching_sha2_password" ++ zero_byte) ≡ Ok (record { version = kept_text (codes "8.0.35"); scramble = codes "abcdefghijklmnopqrst"; plugin = kept_text (codes "caching_sha2_password") })
-  pub without_plugins : greeting_of plain_greeting ≡ Ok (record { version = kept_text (codes "8.0.35"); scramble = codes "abcdefghijklmnopqrst"; plugin = kept_text (codes "mysql_native_password") })
+  pub of_mysql : greeting_of (greeting ++ codes "caching_sha2_password" ++ zero_byte) ≡ Ok (record { version = kept_text (codes "8.0.35"); scramble = codes "abcdefghijklmnopqrst"; plugin = kept_text (codes "caching_sha2_password"); ends = OkEnds; newer = false })
+  pub with_eof : greeting_of (eof_greeting ++ codes "caching_sha2_password" ++ zero_byte) ≡ Ok (record { version = kept_text (codes "8.0.35"); scramble = codes "abcdefghijklmnopqrst"; plugin = kept_text (codes "caching_sha2_password"); ends = Eof; newer = false })
+  pub of_newer : greeting_of (newer_greeting ++ codes "caching_sha2_password" ++ zero_byte) ≡ Ok (record { version = kept_text (codes "8.2.0"); scramble = codes "abcdefghijklmnopqrst"; plugin = kept_text (codes "caching_sha2_password"); ends = OkEnds; newer = true })
+  pub without_plugins : greeting_of plain_greeting ≡ Ok (record { version = kept_text (codes "8.0.35"); scramble = codes "abcdefghijklmnopqrst"; plugin = kept_text (codes "mysql_native_password"); ends = OkEnds; newer = false })
   pub no_plugin_named : greeting_of greeting ≡ Err Garbled
   pub byte_after_plugin : greeting_of (greeting ++ codes "caching_sha2_password" ++ 0 ∷ codes "x") ≡ Err Garbled
   pub short_scrambles : greeting_of (old_greeting ++ codes "caching_sha2_password" ++ zero_byte) ≡ Err Garbled
@@ -41,14 +53,25 @@ pub record Greetings : Type 0 where
   pub short_err : greeting_of (255 ∷ 16 ∷ []) ≡ Err Garbled
   pub nothing : greeting_of [] ≡ Err Garbled
 
--- capabilities 0x0008a205, packets of up to 64 MiB, character set 45, and 23 zeros
+-- packets of up to 64 MiB, character set 45, and 23 zeros
 abbrev pub before_user : List ℕ
-before_user = 5 ∷ 162 ∷ 8 ∷ 0 ∷ 0 ∷ 0 ∷ 0 ∷ 4 ∷ 45 ∷ 0 ∷ 0 ∷ 0 ∷ 0 ∷ 0 ∷ 0 ∷ 0 ∷ 0 ∷ 0 ∷ 0 ∷ 0 ∷ 0 ∷ 0 ∷ 0 ∷ 0 ∷ 0 ∷ 0 ∷ 0 ∷ 0 ∷ 0 ∷ 0 ∷ 0 ∷ 0 ∷ []
+before_user = 0 ∷ 0 ∷ 0 ∷ 4 ∷ 45 ∷ 0 ∷ 0 ∷ 0 ∷ 0 ∷ 0 ∷ 0 ∷ 0 ∷ 0 ∷ 0 ∷ 0 ∷ 0 ∷ 0 ∷ 0 ∷ 0 ∷ 0 ∷ 0 ∷ 0 ∷ 0 ∷ 0 ∷ 0 ∷ 0 ∷ 0 ∷ 0 ∷ []
 
--- A user without a password, and one with an answer of twenty bytes.
+-- A user without a password, and one with an answer of twenty bytes: with capabilities 0x0008a205, and with 0x0108a205.
 pub record Responses : Type 0 where
-  pub without : response (codes "u") None ≡ before_user ++ codes "u" ++ 0 ∷ 0 ∷ codes "mysql_native_password" ++ zero_byte
-  pub with_answer : response (codes "root") (Some (codes "ABCDEFGHIJKLMNOPQRST")) ≡ before_user ++ codes "root" ++ 0 ∷ 20 ∷ codes "ABCDEFGHIJKLMNOPQRSTmysql_native_password" ++ zero_byte
+  pub without : response (codes "u") None Eof ≡ 5 ∷ 162 ∷ 8 ∷ 0 ∷ before_user ++ codes "u" ++ 0 ∷ 0 ∷ codes "mysql_native_password" ++ zero_byte
+  pub with_answer : response (codes "root") (Some (codes "ABCDEFGHIJKLMNOPQRST")) Eof ≡ 5 ∷ 162 ∷ 8 ∷ 0 ∷ before_user ++ codes "root" ++ 0 ∷ 20 ∷ codes "ABCDEFGHIJKLMNOPQRSTmysql_native_password" ++ zero_byte
+  pub without_eof : response (codes "u") None OkEnds ≡ 5 ∷ 162 ∷ 8 ∷ 1 ∷ before_user ++ codes "u" ++ 0 ∷ 0 ∷ codes "mysql_native_password" ++ zero_byte
+  pub with_answer_without_eof : response (codes "root") (Some (codes "ABCDEFGHIJKLMNOPQRST")) OkEnds ≡ 5 ∷ 162 ∷ 8 ∷ 1 ∷ before_user ++ codes "root" ++ 0 ∷ 20 ∷ codes "ABCDEFGHIJKLMNOPQRSTmysql_native_password" ++ zero_byte
+
+-- how the user `u` without a password responds to a greeting
+abbrev pub response_to : List ℕ → Option (List ℕ)
+response_to message = option_map (λ (found : Greeting). response (codes "u") None found.ends) (result_ok (greeting_of message))
+
+-- The response asks for CLIENT_DEPRECATE_EOF exactly where the greeting offers it.
+pub record LoginsUnderEither : Type 0 where
+  pub with_eof : response_to (eof_greeting ++ codes "caching_sha2_password" ++ zero_byte) ≡ Some (5 ∷ 162 ∷ 8 ∷ 0 ∷ before_user ++ codes "u" ++ 0 ∷ 0 ∷ codes "mysql_native_password" ++ zero_byte)
+  pub without_eof : response_to (greeting ++ codes "caching_sha2_password" ++ zero_byte) ≡ Some (5 ∷ 162 ∷ 8 ∷ 1 ∷ before_user ++ codes "u" ++ 0 ∷ 0 ∷ codes "mysql_native_password" ++ zero_byte)
 
 -- What requests for another plugin say.
 pub record RequestsForAPlugin : Type 0 where

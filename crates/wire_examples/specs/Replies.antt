@@ -1,8 +1,10 @@
 -- Messages of replies (MySQL source documentation, OK_Packet, ERR_Packet, EOF_Packet, COM_QUERY Response, ProtocolText::Resultset).
-use Rattle.std.specs.Prelude.{ℕ, ◌≡◌, List, [], ◌∷◌, ◌++◌, Some, None, codes}
+use Rattle.std.specs.Prelude.{ℕ, ◌≡◌, List, [], ◌∷◌, ◌++◌, true, false, length, Some, None, codes}
 use Rattle.wire_forms.specs.KeptText.{kept_text}
-use Rattle.wire_forms.specs.Reading.{Reading, columns_counted, further_of, definition, row, end, refused, garbled}
+use Rattle.wire_forms.specs.Reading.{Reading, columns_counted, is_in_ends_place, is_end_packet, further_of, reading_after, definition, row, end, refused, garbled}
 use Rattle.wire_forms.specs.Reply.{reply_of}
+use Rattle.wire_forms.specs.declared.ends.Ends.{Ends}
+use Rattle.wire_forms.specs.declared.ends.Ends.TheVariants.{Eof, Ok}
 use Rattle.wire_forms.specs.declared.refusal.Refusal.{Refusal}
 use Rattle.wire_forms.specs.declared.reply.Reply.TheVariants.{Done, Refused, Columns}
 
@@ -37,26 +39,59 @@ id_definition = 3 ∷ codes "def" ++ 1 ∷ codes "s" ++ 1 ∷ codes "t" ++ 1 ∷
 abbrev pub eof : List ℕ
 eof = 254 ∷ 0 ∷ 0 ∷ 2 ∷ 0 ∷ []
 
--- a result set of so many columns whose definitions were read, without and with the EOF after them
+-- an OK that ends a result set in place of an EOF, and the OK with which a statement is answered
+abbrev pub ending_ok : List ℕ
+ending_ok = 254 ∷ 0 ∷ 0 ∷ 2 ∷ 0 ∷ 0 ∷ 0 ∷ []
+
+abbrev pub done_ok : List ℕ
+done_ok = 0 ∷ 0 ∷ 0 ∷ 2 ∷ 0 ∷ 0 ∷ 0 ∷ []
+
+-- a result set of so many columns whose definitions were read, before the EOF after them, and before the rows
 abbrev pub at_eof : ℕ → Reading
-at_eof columns = record { columns = columns; awaited = 1 }
+at_eof columns = record { columns = columns; awaited = 1; ends = Eof }
 
-abbrev pub at_rows : ℕ → Reading
-at_rows columns = record { columns = columns; awaited = 0 }
+abbrev pub at_rows : Ends → ℕ → Reading
+at_rows ends columns = record { columns = columns; awaited = 0; ends = ends }
 
--- What the further messages of a result set say.
+-- What the further messages of a result set say that ends by EOF packets.
 pub record FurtherMessages : Type 0 where
-  pub column : further_of (columns_counted 1) id_definition ≡ definition
-  pub byte_after_column : further_of (columns_counted 1) (id_definition ++ 0 ∷ []) ≡ garbled
-  pub eof_for_column : further_of (columns_counted 1) eof ≡ garbled
+  pub column : further_of (columns_counted Eof 1) id_definition ≡ definition
+  pub byte_after_column : further_of (columns_counted Eof 1) (id_definition ++ 0 ∷ []) ≡ garbled
+  pub eof_for_column : further_of (columns_counted Eof 1) eof ≡ garbled
   pub eof_after : further_of (at_eof 1) eof ≡ definition
   pub column_for_eof : further_of (at_eof 1) id_definition ≡ garbled
-  pub cells : further_of (at_rows 2) (1 ∷ codes "2" ++ 251 ∷ []) ≡ row (Some (codes "2") ∷ None ∷ [])
-  pub long_spelling : further_of (at_rows 2) (0 ∷ 252 ∷ 1 ∷ 0 ∷ codes "a") ≡ row (Some [] ∷ Some (codes "a") ∷ [])
-  pub byte_after_cells : further_of (at_rows 1) (1 ∷ codes "3" ++ 0 ∷ []) ≡ garbled
-  pub the_end : further_of (at_rows 1) eof ≡ end
-  pub long_end : further_of (at_rows 1) (eof ++ 0 ∷ 0 ∷ 0 ∷ []) ≡ end
-  pub row_like_an_end : further_of (at_rows 1) (254 ∷ 0 ∷ 0 ∷ 0 ∷ 0 ∷ 0 ∷ 0 ∷ 0 ∷ 0 ∷ []) ≡ row (Some [] ∷ [])
-  pub short_end : further_of (at_rows 1) (254 ∷ 0 ∷ 0 ∷ 2 ∷ []) ≡ garbled
-  pub err : further_of (at_rows 1) no_table ≡ refused no_table_refusal
-  pub nothing : further_of (at_rows 1) [] ≡ garbled
+  pub cells : further_of (at_rows Eof 2) (1 ∷ codes "2" ++ 251 ∷ []) ≡ row (Some (codes "2") ∷ None ∷ [])
+  pub long_spelling : further_of (at_rows Eof 2) (0 ∷ 252 ∷ 1 ∷ 0 ∷ codes "a") ≡ row (Some [] ∷ Some (codes "a") ∷ [])
+  pub byte_after_cells : further_of (at_rows Eof 1) (1 ∷ codes "3" ++ 0 ∷ []) ≡ garbled
+  pub the_end : further_of (at_rows Eof 1) eof ≡ end
+  pub long_end : further_of (at_rows Eof 1) (eof ++ 0 ∷ 0 ∷ 0 ∷ []) ≡ end
+  pub row_like_an_end : further_of (at_rows Eof 1) (254 ∷ 0 ∷ 0 ∷ 0 ∷ 0 ∷ 0 ∷ 0 ∷ 0 ∷ 0 ∷ []) ≡ row (Some [] ∷ [])
+  pub short_end : further_of (at_rows Eof 1) (254 ∷ 0 ∷ 0 ∷ 2 ∷ []) ≡ garbled
+  pub err : further_of (at_rows Eof 1) no_table ≡ refused no_table_refusal
+  pub nothing : further_of (at_rows Eof 1) [] ≡ garbled
+
+-- What those of one say that ends by an OK.
+pub record FurtherMessagesWithoutEof : Type 0 where
+  pub column : further_of (columns_counted Ok 1) id_definition ≡ definition
+  pub eof_for_column : further_of (columns_counted Ok 1) eof ≡ garbled
+  pub after_column : reading_after (columns_counted Ok 1) definition ≡ at_rows Ok 1
+  pub eof_after : further_of (at_rows Ok 1) eof ≡ garbled
+  pub column_for_row : further_of (at_rows Ok 1) id_definition ≡ garbled
+  pub cells : further_of (at_rows Ok 2) (1 ∷ codes "2" ++ 251 ∷ []) ≡ row (Some (codes "2") ∷ None ∷ [])
+  pub the_end : further_of (at_rows Ok 1) ending_ok ≡ end
+  pub long_end : further_of (at_rows Ok 1) (ending_ok ++ codes "info") ≡ end
+  pub long_numbers : further_of (at_rows Ok 1) (254 ∷ 252 ∷ 1 ∷ 0 ∷ 253 ∷ 1 ∷ 0 ∷ 0 ∷ 2 ∷ 0 ∷ 0 ∷ 0 ∷ []) ≡ end
+  pub short_end : further_of (at_rows Ok 1) (254 ∷ 0 ∷ 0 ∷ 2 ∷ 0 ∷ 0 ∷ []) ≡ garbled
+  pub short_row_like_an_end : further_of (at_rows Ok 1) (254 ∷ 0 ∷ 0 ∷ 0 ∷ 0 ∷ 0 ∷ 0 ∷ 0 ∷ 0 ∷ []) ≡ end
+  pub other_ok : further_of (at_rows Ok 1) done_ok ≡ garbled
+  pub err : further_of (at_rows Ok 1) no_table ≡ refused no_table_refusal
+  pub nothing : further_of (at_rows Ok 1) [] ≡ garbled
+
+-- A message of fe and others is in the end's place up to eight bytes where result sets end by EOF packets, and else up to the last size that
+-- fills no packet.
+pub record PlacesOfEnds : Type 0 where
+  pub last_with_eof : (bytes : List ℕ) → length bytes ≡ 7 → is_in_ends_place Eof (254 ∷ bytes) ≡ true
+  pub first_row_with_eof : (bytes : List ℕ) → length bytes ≡ 8 → is_in_ends_place Eof (254 ∷ bytes) ≡ false
+  pub last_without_eof : (bytes : List ℕ) → length bytes ≡ 16777213 → is_in_ends_place Ok (254 ∷ bytes) ≡ true
+  pub first_row_without_eof : (bytes : List ℕ) → length bytes ≡ 16777214 → is_in_ends_place Ok (254 ∷ bytes) ≡ false
+  pub full_is_no_end : (bytes : List ℕ) → length bytes ≡ 16777214 → is_end_packet Ok (254 ∷ bytes) ≡ false

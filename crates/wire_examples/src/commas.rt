@@ -1,4 +1,4 @@
-// The laws of languages, of one language.
+//! The laws of languages, of one language.
 ghost use Rattle.std.specs.Prelude.{◌≡◌, ℕ, List, Result};
 ghost use Rattle.grammar.specs.Language.{IsPlace, Longest, Reads};
 ghost use Rattle.wire_examples.specs.Commas.{commas};

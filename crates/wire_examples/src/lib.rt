@@ -8,6 +8,8 @@ mod packets;
 mod replies;
 
 pub use commas::{Commas, commas_are_of_one_place};
-pub use logins::{greetings, requests_for_a_plugin, responses};
+pub use logins::{greetings, logins_under_either, requests_for_a_plugin, responses, versions};
 pub use packets::{numbers, packets_of_a_query};
-pub use replies::{first_messages, further_messages};
+pub use replies::{
+    first_messages, further_messages, further_messages_without_eof, places_of_ends, result_sets,
+};

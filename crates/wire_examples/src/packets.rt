@@ -1,4 +1,4 @@
-// Length-encoded integers, and the packets of a message.
+//! Length-encoded integers, and the packets of a message.
 ghost use Rattle.wire_examples.specs.Packets.{Numbers, PacketsOfAQuery};
 
 /// Numbers, written and read.

@@ -4,6 +4,9 @@ use Rattle.std.specs.Int.{w32, from_le_bytes}
 use Rattle.wire_forms.specs.KeptText.{kept_text}
 use Rattle.wire_forms.specs.Reply.{refusal_of}
 use Rattle.wire_forms.specs.Texts.{text_size, to_zero, native_password}
+use Rattle.wire_forms.specs.Version.{is_newer}
+use Rattle.wire_forms.specs.declared.ends.Ends.{Ends}
+use Rattle.wire_forms.specs.declared.ends.Ends.TheVariants.{Eof, Ok}
 use Rattle.wire_forms.specs.declared.greeting.Greeting.{Greeting}
 use Rattle.wire_forms.specs.declared.login_fault.LoginFault.{LoginFault}
 use Rattle.wire_forms.specs.declared.login_fault.LoginFault.TheVariants.{NotProtocol10, Refused, Garbled}
@@ -40,10 +43,14 @@ plugin_of true [] = None
 plugin_of true (byte ∷ bytes) = plugin_name (byte ∷ bytes)
 plugin_of false bytes = option_map (λ name. native_password) (plugin_name bytes)
 
+-- how result sets end: by an OK where CLIENT_DEPRECATE_EOF (0x1000000) is offered
+abbrev pub ends_of : List ℕ → Ends
+ends_of bytes = if offers 0x1000000 bytes then Ok else Eof
+
 -- the greeting of a server of this version
 abbrev pub after_version : List ℕ → List ℕ → Option Greeting
 after_version version bytes =
-    if are_fields bytes then option_map (λ plugin. record { version = kept_text version; scramble = scramble_of bytes; plugin = kept_text plugin }) (plugin_of (offers 0x80000 bytes) (drop (31 + second_size bytes) bytes)) else None
+    if are_fields bytes then option_map (λ plugin. record { version = kept_text version; scramble = scramble_of bytes; plugin = kept_text plugin; ends = ends_of bytes; newer = is_newer version }) (plugin_of (offers 0x80000 bytes) (drop (31 + second_size bytes) bytes)) else None
 
 -- what stands after the protocol's version: the server's version, its 00, and the other fields
 abbrev pub after_protocol : List ℕ → Option Greeting

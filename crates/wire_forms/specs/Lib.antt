@@ -11,3 +11,4 @@ pub mod ResultSet
 pub mod Row
 pub mod Switch
 pub mod Texts
+pub mod Version

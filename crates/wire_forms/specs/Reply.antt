@@ -4,6 +4,7 @@ use Rattle.std.specs.Option.{option_map_or}
 use Rattle.wire_forms.specs.Lenenc.{lenenc_of}
 use Rattle.wire_forms.specs.Definition.{column_count}
 use Rattle.wire_forms.specs.KeptText.{kept_text}
+use Rattle.wire_forms.specs.Packet.{full_size}
 use Rattle.wire_forms.specs.declared.refusal.Refusal.{Refusal}
 use Rattle.wire_forms.specs.declared.reply.Reply.{Reply}
 use Rattle.wire_forms.specs.declared.reply.Reply.TheVariants.{Done, Refused, Columns}
@@ -12,10 +13,19 @@ use Rattle.wire_forms.specs.declared.reply.Reply.TheVariants.{Done, Refused, Col
 abbrev pub after_number : List ℕ → Option (List ℕ)
 after_number bytes = option_map (λ (number : ℕ × ℕ). drop number.1 bytes) (lenenc_of bytes)
 
--- an OK: 00, affected rows and last insert id length-encoded, status 2, warnings 2, then anything
+-- what stands after the first byte of an OK: affected rows and last insert id length-encoded, status 2, warnings 2, then anything
+abbrev pub are_ok_fields : List ℕ → Bool
+are_ok_fields bytes = option_map_or (λ (rest : List ℕ). nat_le 4 (length rest)) (option_and_then after_number (after_number bytes)) false
+
+-- an OK: 00, and its fields
 abbrev pub is_ok_packet : List ℕ → Bool
 is_ok_packet [] = false
-is_ok_packet (byte ∷ bytes) = byte == 0 && option_map_or (λ (rest : List ℕ). nat_le 4 (length rest)) (option_and_then after_number (after_number bytes)) false
+is_ok_packet (byte ∷ bytes) = byte == 0 && are_ok_fields bytes
+
+-- an OK in place of an EOF: fe and the fields of an OK, fewer bytes in all than a full packet has (CLIENT_DEPRECATE_EOF)
+abbrev pub is_ending_ok : List ℕ → Bool
+is_ending_ok [] = false
+is_ending_ok (byte ∷ bytes) = byte == 254 && nat_lt (length (byte ∷ bytes)) full_size && are_ok_fields bytes
 
 -- an EOF: fe, warnings 2, status 2, and fewer than nine bytes in all
 abbrev pub is_eof_packet : List ℕ → Bool

@@ -1,4 +1,5 @@
-// The greeting of a server.
+//! The greeting of a server.
+use crate::ends::Ends;
 use crate::short_text::ShortText;
 
 /// What a server says first. (MySQL source documentation, `Protocol::HandshakeV10`.)
@@ -11,4 +12,10 @@ pub struct Greeting {
     /// The plugin that the server proposes, of whose name 512 bytes are kept; `mysql_native_password`
     /// where it has none to choose from.
     pub plugin: ShortText,
+    /// `Ok` exactly where the server offers to end result sets so. (`CLIENT_DEPRECATE_EOF`.)
+    pub ends: Ends,
+    /// Whether the version is 8.2 or a later one, which have `SHOW BINARY LOG STATUS`. It is told by the
+    /// first two numbers of the whole version: one to nine digits, a dot, and digits, of which nine
+    /// count. A version of another form is not newer. (MySQL Reference Manual, `SHOW BINARY LOG STATUS`.)
+    pub newer: bool,
 }

@@ -2,6 +2,7 @@
 //! they say. `my_packets`, `result_rows` and `my_login` write and read them.
 #![tactic(auto)]
 
+mod ends;
 mod greeting;
 mod login_fault;
 mod refusal;
@@ -9,6 +10,7 @@ mod reply;
 mod short_text;
 mod switch;
 
+pub use ends::Ends;
 pub use greeting::Greeting;
 pub use login_fault::LoginFault;
 pub use refusal::Refusal;

@@ -1,4 +1,4 @@
-// Why a login ends.
+//! Why a login ends.
 use crate::refusal::Refusal;
 use crate::short_text::ShortText;
 use thiserror::Error;

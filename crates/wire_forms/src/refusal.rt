@@ -1,4 +1,4 @@
-// ERR packets.
+//! ERR packets.
 use crate::short_text::ShortText;
 
 /// What a server says in an ERR packet. (MySQL source documentation, `ERR_Packet`.)

@@ -1,4 +1,4 @@
-// The first messages of replies.
+//! The first messages of replies.
 use crate::refusal::Refusal;
 
 /// The first message of a reply to a query. (MySQL source documentation, `COM_QUERY Response`.)

@@ -1,4 +1,4 @@
-// Text of a limited length that is kept without memory from the heap.
+//! Text of a limited length that is kept without memory from the heap.
 ghost use Rattle.std.specs.Prelude.{◌≡◌, ◌≤◌, ◌++◌, length, take, drop};
 
 /// Up to 512 bytes, kept in place.

@@ -1,4 +1,4 @@
-// Requests for another plugin.
+//! Requests for another plugin.
 
 /// A server's request to answer a new scramble with `mysql_native_password`. (MySQL source
 /// documentation, `Protocol::AuthSwitchRequest`.)

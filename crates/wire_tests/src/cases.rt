@@ -1,15 +1,16 @@
-// A file of cases.
+//! A file of cases.
 use crate::words::first_and_rest;
 use crate::{logins, numbers, packets, readers, replies};
 use plain_data::OutOfMemory;
 use result_rows::RowReader;
 use std::alloc::Global;
 use std::io;
+use wire_forms::Ends;
 
 // Prints each case of a file that differs, and how many cases it has. A line without ` => ` is a
 // heading.
 pub fn try_all(rt: &HostRuntime, name: &str, text: &str) -> io::Result<()> {
-    let mut reader = RowReader::new();
+    let mut reader = RowReader::new(Ends::Eof);
     let mut cases: u64 = 0;
     for line in text.lines() {
         let Some((case, wanted)) = line.split_once(" => ") else {

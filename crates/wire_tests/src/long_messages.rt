@@ -1,4 +1,4 @@
-// Messages of several packets.
+//! Messages of several packets.
 ghost use Rattle.std.specs.Prelude.{◌≡◌, ◌<◌, ◌+◌, ◌^◌, length};
 
 use crate::words::{add_bytes, add_text, byte_and_rest, limit_and_rest, text_of};

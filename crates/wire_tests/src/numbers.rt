@@ -1,4 +1,4 @@
-// Length-encoded integers.
+//! Length-encoded integers.
 use crate::words::{bytes_of, number_and_rest, text_of, words_of};
 use my_packets::{lenenc_into, lenenc_read};
 use plain_data::OutOfMemory;

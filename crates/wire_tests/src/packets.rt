@@ -1,4 +1,4 @@
-// Packets as they are written and read, and messages in any pieces.
+//! Packets as they are written and read, and messages in any pieces.
 ghost use Rattle.std.specs.Prelude.{◌≡◌, [], true, IsSome};
 
 use crate::long_messages::{faults_of_long, framed_long, read_long, skimmed_long};

@@ -1,4 +1,4 @@
-// Readers of parts of a grammar.
+//! Readers of parts of a grammar.
 ghost use Rattle.std.specs.Prelude.{◌<◌, ◌^◌};
 ghost use Rattle.grammar.specs.Reading.{size_of};
 

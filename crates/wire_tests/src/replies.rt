@@ -1,5 +1,7 @@
-// Replies, message by message.
-use crate::words::{add_bytes, add_text, bytes_of, limit_and_rest, refusal_words, text_of};
+//! Replies, message by message.
+use crate::words::{
+    add_bytes, add_text, bytes_of, ends_and_rest, limit_and_rest, refusal_words, text_of,
+};
 use my_packets::Message;
 use plain_data::OutOfMemory;
 use result_rows::{ReplyFault, Row, RowReader, Turn, is_ok_packet, refusal_read};
@@ -14,13 +16,29 @@ pub fn answer(
 ) -> Result<String, OutOfMemory> {
     let payload = bytes_of(alloc, words)?;
     match call {
+        "new" => begin(alloc, reader, words),
         "first" => reply_words(alloc, reader.first(&payload)),
         "more" => more(alloc, reader, &payload),
         "refusal" => read_refusal(alloc, &payload),
+        "long" => long_message(alloc, reader, words),
         "long_refusal" => long_refusal(alloc, words),
         "is_ok_packet" => Ok(format!(in alloc; "{}", is_ok_packet(&payload))?),
         _ => text_of(alloc, "no such call"),
     }
+}
+
+// `new ENDS`: the replies that follow are read by a new reader, of result sets that end so.
+fn begin(alloc: Global, reader: &mut RowReader, words: &str) -> Result<String, OutOfMemory> {
+    let (ends, _) = ends_and_rest(words);
+    *reader = RowReader::new(ends);
+    text_of(
+        alloc,
+        if reader.is_pending() {
+            "pending"
+        } else {
+            "idle"
+        },
+    )
 }
 
 // A further message, which began at place 40.
@@ -88,6 +106,29 @@ fn add_cell(words: &mut String, cell: Option<&[u8]>) -> Result<(), OutOfMemory> 
             add_text(words, "'")
         }
         None => add_text(words, " NULL"),
+    }
+}
+
+// `long SIZE`: how a further message of so many bytes is read, of which the first is fe, the next are the
+// length of what stands after the first nine, and the others are 01.
+fn long_message(alloc: Global, reader: &mut RowReader, words: &str) -> Result<String, OutOfMemory> {
+    let (size, _) = limit_and_rest(words);
+    let mut payload = Vec::new(alloc);
+    payload.push(0xfe)?;
+    payload.extend_from_slice(&u64::from(size.saturating_sub(9)).to_le_bytes())?;
+    payload.resize((size as usize).max(9), 1)?;
+    if !reader.is_pending() {
+        return text_of(alloc, "nothing is pending");
+    }
+    let message = Message {
+        payload: &payload,
+        place: 40,
+        next_seq: 2,
+    };
+    match reader.more(message) {
+        Ok(Turn::Row(row)) => Ok(format!(in alloc; "row of {}", row.columns())?),
+        Ok(turn) => turn_words(alloc, turn),
+        Err(fault) => fault_words(alloc, fault),
     }
 }
 

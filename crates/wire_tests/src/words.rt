@@ -1,8 +1,8 @@
-// The words of cases: numbers, and bytes in percent-encoding.
+//! The words of cases: numbers, and bytes in percent-encoding.
 use percent_encoding::{CONTROLS, percent_decode, percent_encode};
 use plain_data::OutOfMemory;
 use std::alloc::Global;
-use wire_forms::Refusal;
+use wire_forms::{Ends, Refusal};
 
 // The bytes that a word spells.
 pub fn bytes_of(alloc: Global, word: &str) -> Result<Vec<u8>, OutOfMemory> {
@@ -64,6 +64,13 @@ pub fn byte_and_rest(words: &str) -> (u8, &str) {
 pub fn limit_and_rest(words: &str) -> (u32, &str) {
     let (word, rest) = first_and_rest(words);
     (word.parse().unwrap_or(0), rest)
+}
+
+// How result sets end, `ok` or another word, and what stands after it.
+pub fn ends_and_rest(words: &str) -> (Ends, &str) {
+    let (word, rest) = first_and_rest(words);
+    let ends = if word == "ok" { Ends::Ok } else { Ends::Eof };
+    (ends, rest)
 }
 
 // What a server says in an ERR.
