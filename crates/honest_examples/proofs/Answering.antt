@@ -123,7 +123,7 @@ signs = record {
 }
 
 pub key_told : TheKeyIsTold
-key_told = record { allowed = (refl, refl); refused = λ answer. absurd (cc (answer.1)) }
+key_told = record { allowed = record { names = refl; key = refl }; refused = λ answer. absurd (cc (answer.key)) }
 
 pub no_triggers : NoTriggersAreTold
 unfolding count_of

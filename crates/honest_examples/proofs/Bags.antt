@@ -30,6 +30,21 @@ other_order first second = record { counts = λ row. by_tests (row_eq row first)
     by_tests false true = refl
     by_tests false false = refl
 
+-- and of three the first behind the others
+pub rotated : (first second third : List Cell) → IsSameBag (first ∷ second ∷ third ∷ []) (third ∷ first ∷ second ∷ [])
+unfolding count_of
+rotated first second third = record { counts = λ row. by_tests (row_eq row first) (row_eq row second) (row_eq row third) }
+  where
+    by_tests : (a b c : Bool) → ((0 + cond a 1 0) + cond b 1 0) + cond c 1 0 ≡ ((0 + cond c 1 0) + cond a 1 0) + cond b 1 0
+    by_tests true true true = refl
+    by_tests true true false = refl
+    by_tests true false true = refl
+    by_tests true false false = refl
+    by_tests false true true = refl
+    by_tests false true false = refl
+    by_tests false false true = refl
+    by_tests false false false = refl
+
 -- a row stands in rows that begin with it
 stands_in_front : (row : List Cell) (rows : List (List Cell)) → 1 ≤ count_of row (row ∷ rows)
 unfolding count_of
@@ -49,3 +64,15 @@ first_of_two row first second rows same = by_tests (row_eq row first) (row_eq ro
     by_tests true b is_first is_second some = inl (is_first refl)
     by_tests false true is_first is_second some = inr (is_second refl)
     by_tests false false is_first is_second some = absurd (omega arith)
+
+-- and rows that are the same as three with one of those
+pub first_of_three : (row first second third : List Cell) (rows : List (List Cell)) → IsSameBag (row ∷ rows) (first ∷ second ∷ third ∷ []) → (row ≡ first) ⊎ ((row ≡ second) ⊎ (row ≡ third))
+unfolding count_of
+first_of_three row first second third rows same =
+    by_tests (row_eq row first) (row_eq row second) (row_eq row third) (row_decides row first).0 (row_decides row second).0 (row_decides row third).0 (omega (arith, stands_in_front row rows, same.counts row))
+  where
+    by_tests : (a b c : Bool) → (a ≡ true → row ≡ first) → (b ≡ true → row ≡ second) → (c ≡ true → row ≡ third) → 1 ≤ ((0 + cond a 1 0) + cond b 1 0) + cond c 1 0 → (row ≡ first) ⊎ ((row ≡ second) ⊎ (row ≡ third))
+    by_tests true b c is_first is_second is_third some = inl (is_first refl)
+    by_tests false true c is_first is_second is_third some = inr (inl (is_second refl))
+    by_tests false false true is_first is_second is_third some = inr (inr (is_third refl))
+    by_tests false false false is_first is_second is_third some = absurd (omega arith)

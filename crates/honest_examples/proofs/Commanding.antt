@@ -15,22 +15,22 @@ use Rattle.server_data.specs.declared.data.Object.{Object}
 use Rattle.server_data.specs.declared.data.Transaction.{Transaction}
 use Rattle.sql_cells.specs.declared.cell.Cell.{Cell}
 use Rattle.sql_cells.specs.declared.cell.Cell.TheVariants.{Value}
-use Rattle.statement_forms.specs.declared.command.Command.TheVariants.{Commit, Create, Rollback, StartSnapshot, Use}
+use Rattle.statement_forms.specs.declared.command.Command.TheVariants.{Commit, Create, Rollback, Start, StartSnapshot, Use}
 use Rattle.statement_forms.specs.declared.query.Query.TheVariants.{Rows}
 use Rattle.statement_forms.specs.declared.statement.Statement.TheVariants.{Command as SomeCommand, Query as SomeQuery}
 use Rattle.honest_server.specs.Answer.{Answers}
-use Rattle.honest_server.specs.Effect.{IsMade, MadeIn}
+use Rattle.honest_server.specs.Effect.{EndsOpen, IsMade, MadeIn}
 use Rattle.honest_server.specs.Moves.{MayFollow, plainly}
 use Rattle.honest_server.specs.Serve.{CameBefore, FitsNowhere, done, rows, refused, Serves}
 use Rattle.honest_server.specs.State.{State, with_own, with_others}
 use Rattle.honest_examples.specs.Answered.{columns, no_table}
-use Rattle.honest_examples.specs.Effects.{ACommitWaitsForTheReadLock, ARollbackDropsTheTransaction, ASnapshotShowsWhatWasSeen, AnErrBreaksOffAnAnswer, unwilling, ASchemaIsUsedWhereItIsThere, ASelectShowsTheSnapshot, ATableIsMadeInTheCurrentSchema, AnInsertIsCommittedAtOnce, TheBackupLockStopsACreate, frozen, guarded, insert, link, opened, viewing, with_three, worked}
+use Rattle.honest_examples.specs.Effects.{ACommitWaitsForTheReadLock, AnEmptyTransactionEndsUnderTheReadLock, begun, ARollbackDropsTheTransaction, ASnapshotShowsWhatWasSeen, AnErrBreaksOffAnAnswer, unwilling, ASchemaIsUsedWhereItIsThere, ASelectShowsTheSnapshot, ATableIsMadeInTheCurrentSchema, AnInsertIsCommittedAtOnce, TheBackupLockStopsACreate, frozen, guarded, insert, link, opened, viewing, with_three, worked}
 use Rattle.honest_examples.specs.Worked.{database, history, no_rows, one, put, schema, schema_alone, table, table_text, the_schema, the_table, three, two, unmarked, with_rows}
 use Rattle.honest_examples.proofs.Bags.{first_of_two, other_order, same_rows, some_row}
 use Rattle.honest_examples.proofs.Changes.{keeps_nothing, keeps_three, makes_nothing}
 use Rattle.honest_examples.proofs.Inserting.{put_three, taken_key}
 use Rattle.honest_examples.proofs.Serving.{IsAlone, refuses, serves_done, serves_rows}
-use Rattle.honest_examples.proofs.Soundness.{sound_empty, sound_with_three}
+use Rattle.honest_examples.proofs.Soundness.{sound_empty, sound_with_none, sound_with_three}
 use Rattle.honest_examples.proofs.Worked.{stands, stands_alone, stands_empty, table_shape}
 use Rattle.plain_data.proofs.Options.{same_some}
 
@@ -41,7 +41,7 @@ free seen current frozen view pending same = record {
   sole = refl;
   willing = refl;
   nothing = record {
-    follows = record { frozen = λ p. refl; guarded = λ p. absurd (false≢true p); shared = λ p q. absurd (true≢false q) };
+    follows = record { frozen = λ p. refl; guarded = λ p. absurd (false≢true p); catalogue = λ p q. absurd (true≢false q) };
     sole = λ p q. refl;
     willing = λ p q. refl;
   };
@@ -50,7 +50,7 @@ free seen current frozen view pending same = record {
 
 -- without locks anything may follow
 pub may_follow : (seen : List Transaction) (current : Option (List ℕ)) (pending : Option (List Change)) (more : List Transaction) → MayFollow (record (link seen current) { pending = pending }) more
-may_follow seen current pending more = record { frozen = λ p. absurd (false≢true p); guarded = λ p. absurd (false≢true p); shared = λ p q. absurd (true≢false q) }
+may_follow seen current pending more = record { frozen = λ p. absurd (false≢true p); guarded = λ p. absurd (false≢true p); catalogue = λ p q. absurd (true≢false q) }
 
 pub inserts : AnInsertIsCommittedAtOnce
 inserts = record {
@@ -72,11 +72,28 @@ commits = record {
     never (rows found) new effect = effect
     never (refused found refusal) new effect = effect
 
+-- under the read lock nothing is committed
+ends_alone : (new : State) → EndsOpen (frozen begun) (Some []) new → new ≡ frozen worked
+ends_alone new (inl ended) = ended
+ends_alone new (inr commits) = absurd (cc (commits.follows.frozen refl))
+
+empty_alone : (new : State) → Serves plainly (frozen begun) (SomeCommand Commit) done new → new ≡ frozen worked
+empty_alone new served = ends_alone new (subst (λ (more : List Transaction). EndsOpen (with_others (frozen begun) more) (Some []) new) (served.sees.sole refl refl) served.handles)
+
+pub empty_ends : AnEmptyTransactionEndsUnderTheReadLock
+empty_ends = record {
+  allowed = serves_done (frozen begun) (SomeCommand Commit) (frozen worked) (free history (Some schema) true None (Some []) refl) (inl refl);
+  nothing_else = empty_alone;
+  started = serves_done (frozen begun) (SomeCommand Start) (frozen begun) (free history (Some schema) true None (Some []) refl) (record { middle = frozen worked; ended = inl refl; new_is = refl });
+  marked = record { more = []; sees = (free history (Some schema) false None (Some []) refl).nothing; handles = inr (record { one = unmarked []; changes_are = refl; follows = may_follow history (Some schema) (Some []) (unmarked [] ∷ []); sound = sound_with_none; new_is = refl }); ends = tt };
+  refused = λ served. absurd (cc (ap (λ (state : State). state.mine) (empty_alone _ served)));
+}
+
 -- CREATE TABLE
 
 made_table : IsMade (link schema_alone (Some schema)) (record { objects = the_schema ∷ []; rows = [] }) table_text the_table
 unfolding tokens
-made_table = record { text_is = refl; found = _; is_making = refl; kind = refl; name = refl; schema = refl; settings = refl; shape = table_shape; place = (refl, refl) }
+made_table = record { text_is = refl; found = _; is_making = refl; kind = refl; name = refl; schema = refl; settings = refl; shape = table_shape; place = record { rank = refl; needs = refl } }
 
 -- what the text makes
 abbrev made : Making
@@ -146,7 +163,7 @@ guarded_alone seen current end same ends = record {
   sole = refl;
   willing = refl;
   nothing = record {
-    follows = record { frozen = λ p. refl; guarded = λ p. keeps_nothing seen end ends; shared = λ p q. absurd (true≢false q) };
+    follows = record { frozen = λ p. refl; guarded = λ p. keeps_nothing seen end ends; catalogue = λ p q. absurd (true≢false q) };
     sole = λ p q. refl;
     willing = λ p q. refl;
   };
@@ -155,7 +172,7 @@ guarded_alone seen current end same ends = record {
 
 pub backup_lock : TheBackupLockStopsACreate
 backup_lock = record {
-  allowed = serves_done (guarded worked) (insert (codes "(3,'c')")) (with_three (guarded worked)) (guarded_alone history (Some schema) database refl stands) (put_three true (record { frozen = λ p. absurd (false≢true p); guarded = λ p. keeps_three; shared = λ p q. absurd (true≢false q) }));
+  allowed = serves_done (guarded worked) (insert (codes "(3,'c')")) (with_three (guarded worked)) (guarded_alone history (Some schema) database refl stands) (put_three true (record { frozen = λ p. absurd (false≢true p); guarded = λ p. keeps_three; catalogue = λ p q. absurd (true≢false q) }));
   refused = refuses (guarded (link schema_alone (Some schema))) (SomeCommand (Create table_text)) (guarded_alone schema_alone (Some schema) _ refl stands_alone) never;
 }
   where
@@ -183,7 +200,7 @@ uses = record {
 pub selects : ASelectShowsTheSnapshot
 unfolding rows_of
 selects = record {
-  allowed = serves_rows viewing (SomeQuery (Rows columns schema table)) [] viewing (free history (Some schema) false (Some no_rows) None refl) (record { database = with_rows []; stands = stands_empty; answers = record { all_columns = refl; same = same_rows _ }; told = λ p. refl }, refl);
+  allowed = serves_rows viewing (SomeQuery (Rows columns schema table)) [] viewing (free history (Some schema) false (Some no_rows) None refl) (record { database = with_rows []; stands = stands_empty; answers = record { all_columns = refl; same = same_rows _ }; texts = λ p. refl }, refl);
   refused = λ new served. never served.handles.0.database (same_some (sym served.handles.0.stands ∙ stands_empty)) served.handles.0.answers;
 }
   where
@@ -233,12 +250,12 @@ breaks_off = record {
   allowed = λ refusal. record {
     more = [];
     gives = record {
-      sees = record { follows = record { frozen = λ p. refl; guarded = λ p. absurd (false≢true p); shared = λ p q. absurd (true≢false q) }; sole = λ p q. refl; willing = λ p q. refl };
+      sees = record { follows = record { frozen = λ p. refl; guarded = λ p. absurd (false≢true p); catalogue = λ p q. absurd (true≢false q) }; sole = λ p q. refl; willing = λ p q. refl };
       pending = None;
       lost = inl refl;
       new_is = refl;
     };
-    before = inr (two ∷ one ∷ [], record { database = database; stands = stands; answers = record { all_columns = refl; same = other_order two one }; told = λ p. refl }, record { rest = one ∷ []; joined = refl });
+    before = inr (two ∷ one ∷ [], record { database = database; stands = stands; answers = record { all_columns = refl; same = other_order two one }; texts = λ p. refl }, record { rest = one ∷ []; joined = refl });
     must = λ p. absurd (false≢true p);
   };
   refused = λ refusal new gives. never (subst (λ (more : List Transaction). CameBefore (with_others unwilling more) (SomeQuery (Rows columns schema table)) (three ∷ [])) (gives.gives.sees.sole refl refl) gives.before);

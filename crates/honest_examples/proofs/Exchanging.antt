@@ -1,14 +1,17 @@
 -- What bytes spell replies, and what messages are answered by.
-use Rattle.std.proofs.Common.{◌≡◌, ◌≤◌, ℕ, Bool, true, false, List, [], ◌∷◌, ◌++◌, Some, None, refl, ap, sym, ◌∙◌, subst, arith, codes, length, append-nil, inr, map, drop, get_or, replicate, ◌+◌, ◌*◌, length-append}
+use Rattle.std.proofs.Common.{◌≡◌, ◌≤◌, ℕ, false, List, [], ◌∷◌, ◌++◌, Some, None, refl, ap, sym, ◌∙◌, subst, arith, codes, length, append-nil, append_assoc, IsTrue, inr, map, drop, get_or, replicate, ◌+◌, ◌*◌, length-append}
+use Rattle.std.proofs.lemmas.Bool.{false≢true}
 use Rattle.std.proofs.lemmas.List.Elements.{All-cons, All-nil}
 use Rattle.wire_forms.specs.Packet.{id_after, packet_count, packets}
 use Rattle.my_packets.proofs.Fronts.{same_packets}
 use Rattle.my_packets.proofs.Packets.{packets_length, short_packets}
 use Rattle.wire_forms.specs.KeptText.{short_text}
-use Rattle.wire_forms.specs.Reading.{columns_counted, definition as turn_definition, end, row}
+use Rattle.wire_forms.specs.Reading.{Further, columns_counted, definition as turn_definition, end, garbled, is_end_packet, row}
 use Rattle.wire_forms.specs.Reply.{reply_of}
 use Rattle.wire_forms.specs.ResultSet.{IsResultSet, IsTaken, turns_of}
 use Rattle.wire_forms.specs.Row.{Cell as SentCell}
+use Rattle.wire_forms.specs.declared.ends.Ends.{Ends}
+use Rattle.wire_forms.specs.declared.ends.Ends.TheVariants.{Eof, Ok}
 use Rattle.wire_forms.specs.declared.reply.Reply.TheVariants.{Columns, Done}
 use Rattle.result_rows.proofs.ResultSets.{set-taken}
 use Rattle.server_data.specs.declared.data.Transaction.{Transaction}
@@ -21,16 +24,16 @@ use Rattle.honest_server.specs.Exchange.{BeginsAt, Exchanges, IsLoggingIn, packe
 use Rattle.honest_server.specs.Moves.{plainly}
 use Rattle.honest_server.specs.Serve.{Reply, Serves, done, rows, refused}
 use Rattle.honest_server.specs.Spelled.{IsLeanFront, IsLeanSet, Spells}
-use Rattle.honest_server.specs.State.{Phase, State, in_session, with_others}
+use Rattle.honest_server.specs.State.{Phase, Server, State, in_session, with_others}
 use Rattle.honest_examples.specs.Effects.{worked}
-use Rattle.honest_examples.specs.Exchanges.{ACommandIsAnsweredByOneMessage, ACommitIsAnsweredByAnOk, ALoginIsTaken, AQueryIsAnsweredByItsRows, AQuitIsntAnswered, AreOk, commit, definition, eof, err, logging_in, ok, only, set_before}
-use Rattle.honest_examples.specs.Worked.{history, schema}
+use Rattle.honest_examples.specs.Exchanges.{ACommandIsAnsweredByOneMessage, ACommitIsAnsweredByAnOk, ALoginIsTaken, AnOkEndsAResultSet, AQueryIsAnsweredByItsRows, AQuitIsntAnswered, AreOk, commit, definition, eof, err, ending_ok, logging_in, ok, only, set_before, set_without_eof}
+use Rattle.honest_examples.specs.Worked.{history, schema, server}
 use Rattle.honest_examples.proofs.Reading.{only_commit, read}
 use Rattle.honest_examples.proofs.Commanding.{free}
 
 -- a result set is no single message
-no_single : (columns : ℕ) (found : List (List SentCell)) (message : List ℕ) → IsResultSet columns found (message ∷ []) → ⊥
-no_single columns found message set = omega (arith, ap (λ (messages : List (List ℕ)). length messages) set.messages_are, length-append set.definitions (set.middle ∷ (set.row_messages ++ set.last ∷ [])), length-append set.row_messages (set.last ∷ []))
+no_single : (ends : Ends) (columns : ℕ) (found : List (List SentCell)) (message : List ℕ) → IsResultSet ends columns found (message ∷ []) → ⊥
+no_single ends columns found message set = omega (arith, ap (λ (messages : List (List ℕ)). length messages) set.messages_are, length-append set.definitions (set.between ++ (set.row_messages ++ set.last ∷ [])), length-append set.between (set.row_messages ++ set.last ∷ []), length-append set.row_messages (set.last ∷ []))
 
 pub one_message : ACommandIsAnsweredByOneMessage
 unfolding short_text
@@ -41,10 +44,10 @@ one_message = record {
   refused = never;
 }
   where
-    never : (willing : Bool) (reply : Reply) (columns : ℕ) (found : List (List SentCell)) (messages : List (List ℕ)) → IsResultSet columns found messages → Spells willing (SomeCommand Commit) reply messages → ⊥
-    never willing done columns found messages set spells = no_single columns found spells.message (subst (λ (messages : List (List ℕ)). IsResultSet columns found messages) spells.messages_are set)
-    never willing (rows others) columns found messages set spells = spells
-    never willing (refused others said) columns found messages set spells = no_single columns found spells.message (subst (λ (messages : List (List ℕ)). IsResultSet columns found messages) spells.messages_are set)
+    never : (of : Server) (reply : Reply) (columns : ℕ) (found : List (List SentCell)) (messages : List (List ℕ)) → IsResultSet of.ends columns found messages → Spells of (SomeCommand Commit) reply messages → ⊥
+    never of done columns found messages set spells = no_single of.ends columns found spells.message (subst (λ (messages : List (List ℕ)). IsResultSet of.ends columns found messages) spells.messages_are set)
+    never of (rows others) columns found messages set spells = spells
+    never of (refused others said) columns found messages set spells = no_single of.ends columns found spells.message (subst (λ (messages : List (List ℕ)). IsResultSet of.ends columns found messages) spells.messages_are set)
 
 lean : (last : List ℕ) → length last ≤ 16777216 → IsLeanSet Schemas (only schema) (set_before last)
 lean last short = record {
@@ -57,18 +60,18 @@ lean last short = record {
   last_lean = short;
 }
 
-set : IsResultSet 1 ((Some schema ∷ []) ∷ []) (set_before eof)
+set : IsResultSet Eof 1 ((Some schema ∷ []) ∷ []) (set_before eof)
 set = record {
   count = 1 ∷ [];
   definitions = definition ∷ [];
-  middle = eof;
+  between = eof ∷ [];
   row_messages = (1 ∷ codes "s") ∷ [];
   last = eof;
   messages_are = refl;
   count_is = refl;
   definitions_are = (refl, tt);
   as_many = refl;
-  middle_is = refl;
+  between_is = refl;
   rows_are = (record { begins = refl; cells_are = refl }, tt);
   last_is = refl;
 }
@@ -78,14 +81,14 @@ unfolding short_text
 its_rows = record {
   allowed = record { columns = 1; is_set = set; lean = λ p. lean eof (omega arith) };
   broken_off = inr (record { columns = 1; first = 1 ∷ []; others = definition ∷ eof ∷ (1 ∷ codes "s") ∷ err ∷ []; messages_are = refl; counts = refl; turns = refl; lean = λ p. lean err (omega arith) });
-  other_rows = λ spells. other (set-taken _ _ _ spells.is_set);
-  refused = λ found spells. no_single _ _ ok spells.is_set;
+  other_rows = λ spells. other (set-taken _ _ _ _ spells.is_set);
+  refused = λ found spells. no_single _ _ _ ok spells.is_set;
 }
   where
-    turned : (columns : ℕ) (first : List ℕ) (others : List (List ℕ)) → columns ≡ 1 → others ≡ definition ∷ eof ∷ (1 ∷ codes "s") ∷ eof ∷ [] → turns_of (columns_counted columns) others ≡ replicate (columns + 1) turn_definition ++ (map row ((Some (codes "ss") ∷ []) ∷ []) ++ end ∷ []) → ⊥
-    turned columns first others is_one are turns = absurd (cc (subst (λ (others : List (List ℕ)). turns_of (columns_counted 1) others ≡ replicate 2 turn_definition ++ (map row ((Some (codes "ss") ∷ []) ∷ []) ++ end ∷ [])) are (subst (λ (columns : ℕ). turns_of (columns_counted columns) others ≡ replicate (columns + 1) turn_definition ++ (map row ((Some (codes "ss") ∷ []) ∷ []) ++ end ∷ [])) is_one turns)))
+    turned : (columns : ℕ) (first : List ℕ) (others : List (List ℕ)) → columns ≡ 1 → others ≡ definition ∷ eof ∷ (1 ∷ codes "s") ∷ eof ∷ [] → turns_of (columns_counted Eof columns) others ≡ replicate (columns + 1) turn_definition ++ (map row ((Some (codes "ss") ∷ []) ∷ []) ++ end ∷ []) → ⊥
+    turned columns first others is_one are turns = absurd (cc (subst (λ (others : List (List ℕ)). turns_of (columns_counted Eof 1) others ≡ replicate 2 turn_definition ++ (map row ((Some (codes "ss") ∷ []) ∷ []) ++ end ∷ [])) are (subst (λ (columns : ℕ). turns_of (columns_counted Eof columns) others ≡ replicate (columns + 1) turn_definition ++ (map row ((Some (codes "ss") ∷ []) ∷ []) ++ end ∷ [])) is_one turns)))
 
-    other : {columns : ℕ} → IsTaken columns ((Some (codes "ss") ∷ []) ∷ []) (set_before eof) → ⊥
+    other : {columns : ℕ} → IsTaken Eof columns ((Some (codes "ss") ∷ []) ∷ []) (set_before eof) → ⊥
     other {columns} is_taken = turned columns is_taken.first is_taken.others one_column (sym (ap (λ (messages : List (List ℕ)). drop 1 messages) is_taken.messages_are)) is_taken.turns
       where
         counts : Some (Columns 1) ≡ Some (Columns columns)
@@ -93,6 +96,82 @@ its_rows = record {
 
         one_column : columns ≡ 1
         one_column = cc
+
+-- result sets under the other ending
+
+-- the last of messages
+final : List (List ℕ) → List ℕ
+final [] = []
+final (message ∷ []) = message
+final (message ∷ next ∷ messages) = final (next ∷ messages)
+
+final_is : (messages : List (List ℕ)) (last : List ℕ) → final (messages ++ last ∷ []) ≡ last
+unfolding final
+final_is [] last = refl
+final_is (message ∷ []) last = refl
+final_is (message ∷ next ∷ messages) last = final_is (next ∷ messages) last
+
+-- a result set's last message ends it
+last_of : (ends : Ends) (columns : ℕ) (found : List (List SentCell)) (messages : List (List ℕ)) → IsResultSet ends columns found messages → IsTrue (is_end_packet ends (final messages))
+last_of ends columns found messages whole = subst (λ (message : List ℕ). IsTrue (is_end_packet ends message)) (sym is) whole.last_is
+  where
+    is : final messages ≡ whole.last
+    is = ap final (whole.messages_are ∙ (ap (λ (messages : List (List ℕ)). whole.count ∷ (whole.definitions ++ messages)) (sym (append_assoc whole.between whole.row_messages (whole.last ∷ [])))
+        ∙ ap (λ (messages : List (List ℕ)). whole.count ∷ messages) (sym (append_assoc whole.definitions (whole.between ++ whole.row_messages) (whole.last ∷ []))))) ∙ final_is (whole.count ∷ (whole.definitions ++ (whole.between ++ whole.row_messages))) whole.last
+
+-- a message that is none of a result set's isn't the first of its rows or its end
+no_garbled : (found : List (List SentCell)) (others : List Further) → garbled ∷ others ≡ map row found ++ end ∷ [] → ⊥
+no_garbled [] others is = cc
+no_garbled (cells ∷ found) others is = cc
+
+set_ok : IsResultSet Ok 1 ((Some schema ∷ []) ∷ []) (set_without_eof ending_ok)
+set_ok = record {
+  count = 1 ∷ [];
+  definitions = definition ∷ [];
+  between = [];
+  row_messages = (1 ∷ codes "s") ∷ [];
+  last = ending_ok;
+  messages_are = refl;
+  count_is = refl;
+  definitions_are = (refl, tt);
+  as_many = refl;
+  between_is = tt;
+  rows_are = (record { begins = refl; cells_are = refl }, tt);
+  last_is = refl;
+}
+
+lean_ok : (last : List ℕ) → length last ≤ 16777216 → IsLeanSet Schemas (only schema) (set_without_eof last)
+lean_ok last short = record {
+  front = (1 ∷ []) ∷ definition ∷ [];
+  row_messages = (1 ∷ codes "s") ∷ [];
+  last = last;
+  messages_are = refl;
+  front_lean = All-cons (IsLeanFront Schemas) (1 ∷ []) (definition ∷ []) (omega arith) (All-cons (IsLeanFront Schemas) definition [] (omega arith) (All-nil _));
+  rows_lean = (omega arith, tt);
+  last_lean = short;
+}
+
+pub ok_ends : AnOkEndsAResultSet
+unfolding short_text final
+ok_ends = record {
+  allowed = record { columns = 1; is_set = set_ok; lean = λ p. lean_ok ending_ok (omega arith) };
+  broken_off = inr (record { columns = 1; first = 1 ∷ []; others = definition ∷ (1 ∷ codes "s") ∷ err ∷ []; messages_are = refl; counts = refl; turns = refl; lean = λ p. lean_ok err (omega arith) });
+  eof_at_the_end = λ found spells. false≢true (last_of _ _ _ _ spells.is_set);
+  eof_between = λ found spells. between (set-taken _ _ _ _ spells.is_set);
+  ok_under_eof = λ found spells. false≢true (last_of _ _ _ _ spells.is_set);
+}
+  where
+    between : {columns : ℕ} {found : List (List SentCell)} → IsTaken Ok columns found (set_before ending_ok) → ⊥
+    between {columns} {found} is_taken = no_garbled found _ (ap (λ (list : List Further). drop 1 list) turns)
+      where
+        counts : Some (Columns 1) ≡ Some (Columns columns)
+        counts = ap reply_of (ap (λ (messages : List (List ℕ)). get_or messages 0 []) is_taken.messages_are) ∙ is_taken.reply
+
+        one_column : columns ≡ 1
+        one_column = cc
+
+        turns : turns_of (columns_counted Ok 1) (definition ∷ eof ∷ (1 ∷ codes "s") ∷ ending_ok ∷ []) ≡ replicate 1 turn_definition ++ (map row found ++ end ∷ [])
+        turns = subst (λ (others : List (List ℕ)). turns_of (columns_counted Ok 1) others ≡ replicate 1 turn_definition ++ (map row found ++ end ∷ [])) (sym (ap (λ (messages : List (List ℕ)). drop 1 messages) is_taken.messages_are)) (subst (λ (columns : ℕ). turns_of (columns_counted Ok columns) is_taken.others ≡ replicate columns turn_definition ++ (map row found ++ end ∷ [])) one_column is_taken.turns)
 
 -- a reply of one message that is an OK
 record IsOkAlone (messages : List (List ℕ)) : Type 0 where
@@ -104,7 +183,7 @@ record IsOkAlone (messages : List (List ℕ)) : Type 0 where
 pub record IsServedTo (state : State) (messages : List (List ℕ)) (new : State) : Type 0 where
   pub reply : Reply
   pub serves : Serves plainly state (SomeCommand Commit) reply new
-  pub spells : Spells state.terms.willing (SomeCommand Commit) reply messages
+  pub spells : Spells state.terms.server (SomeCommand Commit) reply messages
 
 -- in a session COM_QUERY COMMIT is answered so
 pub of_commit : (state : State) (payload : List ℕ) (messages : List (List ℕ)) (new : State) → state.phase ≡ in_session → payload ≡ query_payload (codes "COMMIT") → Replies plainly state payload messages new → IsServedTo state messages new
@@ -115,7 +194,7 @@ of_commit state payload messages new in_phase is (quits phase payload_is message
 of_commit state payload messages new in_phase is (served text statement reply phase payload_is read_as serves spells) = record {
   reply = reply;
   serves = subst (λ (statement : Statement). Serves plainly state statement reply new) statement_is serves;
-  spells = subst (λ (statement : Statement). Spells state.terms.willing statement reply messages) statement_is spells;
+  spells = subst (λ (statement : Statement). Spells state.terms.server statement reply messages) statement_is spells;
 }
   where
     text_is : text ≡ codes "COMMIT"
@@ -135,7 +214,7 @@ pub of_message : (state : State) (reply : List ℕ) (new : State) → (exchanges
 of_message state reply new exchanges in_phase = of_commit state exchanges.payload exchanges.messages new in_phase (payload_of exchanges.payload exchanges.is_message.id (subst (λ (phase : Phase). BeginsAt phase exchanges.is_message.id) in_phase exchanges.is_message.begins) exchanges.is_message.message_is) exchanges.replies
 
 -- where no transaction is open, that is an OK
-by_reply : (reply : Reply) (messages : List (List ℕ)) (new : State) → Serves plainly worked (SomeCommand Commit) reply new → Spells true (SomeCommand Commit) reply messages → IsOkAlone messages × (new ≡ worked)
+by_reply : (reply : Reply) (messages : List (List ℕ)) (new : State) → Serves plainly worked (SomeCommand Commit) reply new → Spells server (SomeCommand Commit) reply messages → IsOkAlone messages × (new ≡ worked)
 by_reply done messages new serves spells = (record { message = spells.message; says = spells.says; messages_are = spells.messages_are }, serves.handles ∙ ap (λ (more : List Transaction). with_others worked more) (serves.sees.sole refl refl))
 by_reply (rows found) messages new serves spells = absurd spells
 by_reply (refused found said) messages new serves spells = absurd (serves.must refl done (with_others worked serves.more) refl)

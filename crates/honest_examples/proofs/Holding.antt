@@ -1,5 +1,5 @@
 -- What becomes of a snapshot that is taken beside a holder of the read lock.
-use Rattle.std.proofs.Common.{◌≡◌, ◌<◌, ℕ, true, List, [], ◌∷◌, ◌++◌, Some, refl, ap, sym, ◌∙◌, subst, arith, codes, length, length-append, drop, ◌⊎◌, inl, inr}
+use Rattle.std.proofs.Common.{◌≡◌, ◌<◌, ℕ, List, [], ◌∷◌, ◌++◌, Some, refl, ap, sym, ◌∙◌, subst, arith, codes, length, length-append, drop, ◌⊎◌, inl, inr}
 use Rattle.std.proofs.lemmas.Bool.{false≢true}
 use Rattle.grammar.specs.Language.{Fixed, Then}
 use Rattle.wire_forms.specs.Packet.{packets}
@@ -28,7 +28,7 @@ use Rattle.honest_examples.specs.Exchanges.{ok}
 use Rattle.honest_examples.specs.Links.{ok_packet}
 use Rattle.honest_examples.specs.Sends.{ASnapshotShowsWhatTheHolderHasSeen, NothingIsCommittedBesideAHolder, b_opened, start_snapshot}
 use Rattle.honest_examples.specs.Sites.{a_holds, b_sees, one_of_two, puts_five, puts_three}
-use Rattle.honest_examples.specs.Worked.{database, history, one, put, row, two}
+use Rattle.honest_examples.specs.Worked.{database, history, one, put, row, server, two}
 use Rattle.honest_examples.proofs.Changes.{keeps_nothing, keeps_row, keeps_three}
 use Rattle.honest_examples.proofs.Exchanging.{one_message}
 use Rattle.honest_examples.proofs.Sending.{first, query_second, second}
@@ -57,7 +57,7 @@ inserts_nothing : (other : List ℕ) → text ≡ other → AnyInsert other → 
 unfolding AnyInsert Then Fixed first
 inserts_nothing other is insert = let begins : text ≡ codes "INSERT INTO " ++ insert.1 = is ∙ (insert.2 ∙ ap (λ (front : List ℕ). front ++ insert.1) insert.3) in omega (arith, ap first begins)
 
-of_command : (command : Command) → CommandHasText command → text ≡ command_text command → (command_row command < 14) ⊎ (SomeCommand command ≡ snapshot)
+of_command : (command : Command) → CommandHasText command → text ≡ command_text command → (command_row command < 15) ⊎ (SomeCommand command ≡ snapshot)
 unfolding command_text first
 of_command StartSnapshot has is = inr refl
 of_command Start has is = absurd (omega (arith, ap (λ (bytes : List ℕ). length bytes) is))
@@ -73,7 +73,7 @@ of_command (InsertProgressFile name) has is = absurd (omega (arith, ap first is)
 of_command (InsertProgressDump digest) has is = absurd (omega (arith, ap first is))
 of_command command has is = inl (omega arith)
 
-latest : (other : Statement) → IsTextOf other text → (row_of other < 14) ⊎ (other ≡ snapshot)
+latest : (other : Statement) → IsTextOf other text → (row_of other < 15) ⊎ (other ≡ snapshot)
 latest (SomeCommand command) is = of_command command is.0 is.1
 latest (SomeQuery query) is = absurd (no_query query is.2 (query_second query))
 
@@ -84,7 +84,7 @@ read = record { text_of = (tt, refl); latest = latest }
 only_snapshot : (statement : Statement) → IsReadAs text statement → statement ≡ snapshot
 only_snapshot statement reads = by_rows (latest statement reads.text_of) (reads.latest snapshot read.text_of)
   where
-    by_rows : (row_of statement < 14) ⊎ (statement ≡ snapshot) → (14 < row_of statement) ⊎ (snapshot ≡ statement) → statement ≡ snapshot
+    by_rows : (row_of statement < 15) ⊎ (statement ≡ snapshot) → (15 < row_of statement) ⊎ (snapshot ≡ statement) → statement ≡ snapshot
     by_rows (inr same) other = same
     by_rows (inl below) (inr same) = sym same
     by_rows (inl below) (inl above) = absurd (omega arith)
@@ -93,7 +93,7 @@ only_snapshot statement reads = by_rows (latest statement reads.text_of) (reads.
 record IsServedTo (way : Way) (state : State) (messages : List (List ℕ)) (new : State) : Type 0 where
   reply : Reply
   serves : Serves way state snapshot reply new
-  spells : Spells state.terms.willing snapshot reply messages
+  spells : Spells state.terms.server snapshot reply messages
 
 -- in a session it is answered so
 of_snapshot : (way : Way) (state : State) (payload : List ℕ) (messages : List (List ℕ)) (new : State) → state.phase ≡ in_session → payload ≡ query_payload text → Replies way state payload messages new → IsServedTo way state messages new
@@ -104,7 +104,7 @@ of_snapshot way state payload messages new in_phase is (quits phase payload_is m
 of_snapshot way state payload messages new in_phase is (served other statement reply phase payload_is read_as serves spells) = record {
   reply = reply;
   serves = subst (λ (statement : Statement). Serves way state statement reply new) statement_is serves;
-  spells = subst (λ (statement : Statement). Spells state.terms.willing statement reply messages) statement_is spells;
+  spells = subst (λ (statement : Statement). Spells state.terms.server statement reply messages) statement_is spells;
 }
   where
     text_is : other ≡ text
@@ -131,7 +131,7 @@ taken : IsHandled (beside a_holds) one_of_two snapshot done b_views
 taken = record {
   more = puts_three ∷ [];
   sees = record {
-    follows = record { frozen = λ p. absurd (false≢true p); guarded = λ p. absurd (false≢true p); shared = λ p q. keeps_three };
+    follows = record { frozen = λ p. absurd (false≢true p); guarded = λ p. absurd (false≢true p); catalogue = λ p q. keeps_three };
     joined = refl;
     alone = λ p q. absurd (false≢true q);
   };
@@ -143,16 +143,16 @@ exchanged : Exchanges (beside a_holds) one_of_two start_snapshot ok_packet b_vie
 unfolding packets
 exchanged = record { payload = query_payload text; is_message = record { id = 0; begins = refl; message_is = refl }; messages = ok ∷ []; replies = served text snapshot done refl refl read taken one_message.allowed; reply_is = refl }
 
-shows : (reply : Reply) (messages : List (List ℕ)) (new : State) → Serves (beside a_holds) one_of_two snapshot reply new → Spells true snapshot reply messages → new.view ≡ Some a_holds.seen
+shows : (reply : Reply) (messages : List (List ℕ)) (new : State) → Serves (beside a_holds) one_of_two snapshot reply new → Spells server snapshot reply messages → new.view ≡ Some a_holds.seen
 shows done messages new serves spells = ap (λ (state : State). state.view) serves.handles.new_is ∙ (ap (λ (state : State). Some (state.seen)) serves.handles.ended ∙ ap (λ (seen : List Transaction). Some seen) serves.sees.joined)
 shows (rows found) messages new serves spells = absurd spells
 shows (refused found said) messages new serves spells = absurd (serves.must refl done b_views taken)
 
 pub shown : ASnapshotShowsWhatTheHolderHasSeen
 shown = record {
-  allowed = record { ok = record { reply = ok_packet; exchanges = exchanged; waits = refl; alive = refl }; err = tt };
-  nothing_else = λ new sends. of_new new.state sends.ok.reply sends.ok.exchanges;
-  older = λ new view sends. omega (arith, ap (λ (list : List Transaction). length list) (same_some (sym view ∙ of_new new.state sends.ok.reply sends.ok.exchanges)));
+  allowed = record { sends = record { ok = (refl, record { reply = ok_packet; exchanges = exchanged; waits = refl; alive = refl; wide = λ told. told }); err = tt; dead = λ failed. absurd (false≢true failed) }; after = record { rest = puts_three ∷ []; joined = refl } };
+  nothing_else = λ new sends. of_new new.state sends.sends.ok.1.reply sends.sends.ok.1.exchanges;
+  older = λ new view sends. omega (arith, ap (λ (list : List Transaction). length list) (same_some (sym view ∙ of_new new.state sends.sends.ok.1.reply sends.sends.ok.1.exchanges)));
 }
   where
     of_new : (new : State) (reply : List ℕ) → Exchanges (beside a_holds) one_of_two start_snapshot reply new → new.view ≡ Some a_holds.seen
@@ -163,7 +163,7 @@ shown = record {
 abbrev five : List Cell
 five = row (codes "5") Null
 
-sound_five : IsSound (history ++ puts_five ∷ [])
+sound_five : IsSound server (history ++ puts_five ∷ [])
 unfolding change_db has_object may_make
 sound_five = sound_with (history ++ puts_five ∷ []) (one ∷ two ∷ five ∷ []) (1 ∷ 2 ∷ 5 ∷ []) refl (good_marks_with ((put five ∷ []) ∷ [])) refl refl refl
 
@@ -178,20 +178,20 @@ alone = record {
   ends = tt;
   more = [];
   sees = record {
-    follows = record { frozen = λ p. refl; guarded = λ p. keeps_nothing history database stands; shared = λ p q. keeps_nothing history database stands };
+    follows = record { frozen = λ p. refl; guarded = λ p. keeps_nothing history database stands; catalogue = λ p q. keeps_nothing history database stands };
     sole = λ p q. refl;
     willing = λ p q. refl;
   };
   ended = record {
     one = puts_five;
     changes_are = refl;
-    follows = record { frozen = λ p. absurd (false≢true p); guarded = λ p. absurd (false≢true p); shared = λ p q. keeps_row history (one ∷ two ∷ []) (codes "5") Null stands };
+    follows = record { frozen = λ p. absurd (false≢true p); guarded = λ p. absurd (false≢true p); catalogue = λ p q. keeps_row history (one ∷ two ∷ []) (codes "5") Null stands };
     sound = sound_five;
     new_is = refl;
   };
 }
 
-none_of_own : (reply : Reply) (messages : List (List ℕ)) (new : State) → Serves (beside a_holds) b_opened snapshot reply new → Spells true snapshot reply messages → new.mine ≡ []
+none_of_own : (reply : Reply) (messages : List (List ℕ)) (new : State) → Serves (beside a_holds) b_opened snapshot reply new → Spells server snapshot reply messages → new.mine ≡ []
 none_of_own done messages new serves spells = absurd (omega (arith, ap (λ (list : List Transaction). length list) too_long, length-append (history ++ serves.more) (serves.handles.ended.one ∷ [])))
   where
     too_long : (history ++ serves.more) ++ serves.handles.ended.one ∷ [] ≡ history ++ serves.more
@@ -201,10 +201,10 @@ none_of_own (refused found said) messages new serves spells = ap (λ (state : St
 
 pub kept : NothingIsCommittedBesideAHolder
 kept = record {
-  plainly = record { ok = tt; err = record { failed = refl; left = inr (inl alone) } };
-  allowed = record { ok = tt; err = record { failed = refl; left = inr (inr refl) } };
-  nothing_else = λ new sends. of_left new.state sends.err.left;
-  refused = λ sends. absurd (cc (of_left (with_own b_opened puts_five) sends.err.left));
+  plainly = record { ok = tt; err = λ alive. record { failed = refl; wide = λ told. told; left = inr (inl alone) }; dead = λ failed. absurd (false≢true failed) };
+  allowed = record { sends = record { ok = tt; err = λ alive. record { failed = refl; wide = λ told. told; left = inr (inr refl) }; dead = λ failed. absurd (false≢true failed) }; after = tt };
+  nothing_else = λ new sends. of_left new.state (sends.sends.err refl).left;
+  refused = λ sends. absurd (cc (of_left (with_own b_opened puts_five) (sends.sends.err refl).left));
 }
   where
     of_left : (new : State) → ((reply : List ℕ) × Exchanges (beside a_holds) b_opened start_snapshot reply new) ⊎ (⊥ ⊎ (new ≡ b_opened)) → new.mine ≡ []

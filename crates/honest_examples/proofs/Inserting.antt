@@ -1,26 +1,32 @@
 -- INSERTs into the worked table.
-use Rattle.std.proofs.Common.{◌≡◌, ◌<◌, ◌≤◌, ℕ, zero, suc, Bool, true, false, cond, List, [], ◌∷◌, ◌++◌, length, take, Option, Some, None, refl, ap, sym, ◌∙◌, subst, arith, append_assoc, inl, codes, length-append, bytes_eq, slice_index, ◌||◌}
-use Rattle.std.specs.Prelude.{option_and_then}
+use Rattle.std.proofs.Common.{◌≡◌, ◌<◌, ◌≤◌, ℕ, zero, suc, Bool, true, false, cond, List, [], ◌∷◌, ◌++◌, length, take, Option, Some, None, map, refl, ap, sym, ◌∙◌, subst, arith, append_assoc, inl, codes, length-append, bytes_eq, slice_index, ◌||◌}
+use Rattle.std.specs.Prelude.{IfSome, option_and_then, option_map}
+use Rattle.hex.specs.Hex.{IsBytes}
 use Rattle.std.proofs.Math.Seq.{take-append_seam}
 use Rattle.std.proofs.lemmas.Bool.{false≢true}
 use Rattle.std.proofs.lemmas.List.{append_cancel_left}
+use Rattle.std.proofs.lemmas.List.Elements.{All-cons}
 use Rattle.std.proofs.lemmas.Slice.Eq.{bytes_eq-Decides}
 use Rattle.grammar.specs.Language.{Longest}
 use Rattle.grammar.proofs.Choices.{neither}
-use Rattle.object_forms.specs.Shape.{TableCounter}
 use Rattle.object_forms.specs.declared.kind.Kind.TheVariants.{Table}
 use Rattle.server_data.specs.Fold.{change_db, changes_db, db, has_object, may_make, rows_of, with_row}
 use Rattle.server_data.specs.declared.data.Change.{Change}
 use Rattle.server_data.specs.declared.data.Database.{Database}
+use Rattle.server_data.specs.History.{Interleaves, here, none_left, takes}
+use Rattle.server_data.specs.declared.data.Need.{Need}
 use Rattle.server_data.specs.declared.data.Object.{Object}
 use Rattle.sql_cells.specs.Cell.{bytes_of}
+use Rattle.sql_cells.specs.Literal.{has_literal, literal}
 use Rattle.sql_cells.specs.Name.{quoted_name}
 use Rattle.sql_cells.specs.Number.{is_number}
 use Rattle.sql_cells.specs.Spelling.{Literal, Spells, cell_of}
 use Rattle.sql_cells.specs.declared.cell.Cell.{Cell}
 use Rattle.sql_cells.specs.declared.cell.Cell.TheVariants.{Null, Value}
 use Rattle.sql_cells.specs.declared.cell_kind.CellKind.TheVariants.{Number, Text}
+use Rattle.sql_cells.specs.declared.cell_kind.CellKind.{CellKind}
 use Rattle.sql_literals.proofs.CellKinds.{read_back}
+use Rattle.sql_literals.proofs.ConvertedReads.{no_empty_converted}
 use Rattle.sql_literals.proofs.HexReads.{no_empty_hex}
 use Rattle.sql_literals.proofs.LiteralReads.{no_empty_null}
 use Rattle.sql_literals.proofs.NumberReads.{no_empty_number}
@@ -31,26 +37,26 @@ use Rattle.honest_server.specs.Answer.{has_bytes, object_at}
 use Rattle.honest_server.specs.Catalogue.{a_row, no_more}
 use Rattle.honest_server.specs.Columns.{are_numbers, plain_columns, plain_names}
 use Rattle.honest_server.specs.Effect.{Effect, GoesInto}
-use Rattle.honest_server.specs.Insert.{AddsTo, Inserts, SpellsCells, SpellsInsert, SpellsRows, are_under, last_cell, last_row, next_cell, next_row}
+use Rattle.honest_server.specs.Insert.{Inserts, Insertion, SpelledCell, SpellsCell, SpellsCells, SpellsInsert, SpellsRows, StandAmong, are_spelled_for, cells_of, last_cell, last_row, next_cell, next_row}
 use Rattle.honest_server.specs.Moves.{MayFollow, plainly}
 use Rattle.honest_server.specs.Serve.{FitsNowhere, Handles, done, rows, refused}
 use Rattle.honest_server.specs.State.{State, database_found_by, open_changes, with_others, with_own}
 use Rattle.honest_server.specs.WellFormed.{HasKeys, HasKeysWhere, IsSound}
 use Rattle.honest_examples.proofs.Soundness.{all_of_one, keys_of, sound_with_three}
-use Rattle.honest_examples.proofs.Worked.{no_counter, rows_are, stands}
+use Rattle.honest_examples.proofs.Worked.{rows_are, stands}
 use Rattle.honest_examples.specs.Effects.{insert, with_three, worked}
-use Rattle.honest_examples.specs.Worked.{a, database, one, put, row, schema, table, the_table, three, two, unmarked, with_rows}
+use Rattle.honest_examples.specs.Worked.{a, database, one, put, row, schema, server, table, the_table, three, two, unmarked, with_rows}
 use Rattle.plain_data.proofs.Options.{same_some}
 
-no_empty_literal : Literal [] → ⊥
+pub no_empty_literal : Literal [] → ⊥
 unfolding Literal
-no_empty_literal = neither _ _ no_empty_null (neither _ _ no_empty_number (neither _ _ no_empty_text no_empty_hex))
+no_empty_literal = neither _ _ no_empty_null (neither _ _ no_empty_number (neither _ _ no_empty_text (neither _ _ no_empty_hex no_empty_converted)))
 
 -- the rows of the second INSERT, without the first parenthesis
 abbrev inside : List ℕ
 inside = codes "1,'b')"
 
-one_byte : (byte : ℕ) → byte < 256 → (i : ℕ) → slice_index (byte ∷ []) i < 256
+pub one_byte : (byte : ℕ) → byte < 256 → (i : ℕ) → slice_index (byte ∷ []) i < 256
 one_byte byte small zero = small
 one_byte byte small (suc i) = omega arith
 
@@ -74,25 +80,27 @@ is_one bytes Null same spells = absurd (cc (spells.cell_is ∙ ap cell_of same))
 is_one bytes (Value found) same spells = cc (spells.cell_is ∙ ap cell_of same)
 
 -- a row that begins with 1
-record BeginsWithOne (cells : List Cell) : Type 0 where
-  others : List Cell
-  cells_are : cells ≡ Value (codes "1") ∷ others
+record BeginsWithOne (cells : List SpelledCell) : Type 0 where
+  first : SpelledCell
+  others : List SpelledCell
+  cells_are : cells ≡ first ∷ others
+  first_is : first.cell ≡ Value (codes "1")
 
-first_cell : {spelled : List ℕ} {cells : List Cell} → SpellsCells spelled cells → (rest : List ℕ) → spelled ++ rest ≡ inside → BeginsWithOne cells
-first_cell (last_cell {bytes} {cell} spells) rest whole = record { others = []; cells_are = ap (λ (first : Cell). first ∷ []) (is_one bytes cell (first_literal bytes rest spells.literal whole) spells) }
-first_cell (next_cell {bytes} {rest = after} {whole = spelled} {cell} {cells} spells others is_whole) rest whole = record { others = cells; cells_are = ap (λ (first : Cell). first ∷ cells) (is_one bytes cell (first_literal bytes (codes "," ++ (after ++ rest)) spells.literal joined) spells) }
+first_cell : {spelled : List ℕ} {cells : List SpelledCell} → SpellsCells spelled cells → (rest : List ℕ) → spelled ++ rest ≡ inside → BeginsWithOne cells
+first_cell (last_cell {bytes} {cell} spells) rest whole = record { first = cell; others = []; cells_are = refl; first_is = is_one bytes cell.cell (first_literal bytes rest spells.spells.literal whole) spells.spells }
+first_cell (next_cell {bytes} {rest = after} {whole = spelled} {cell} {cells} spells others is_whole) rest whole = record { first = cell; others = cells; cells_are = refl; first_is = is_one bytes cell.cell (first_literal bytes (codes "," ++ (after ++ rest)) spells.spells.literal joined) spells.spells }
   where
     joined : bytes ++ (codes "," ++ (after ++ rest)) ≡ inside
     joined = sym (append_assoc bytes (codes ",") (after ++ rest)) ∙ (sym (append_assoc (bytes ++ codes ",") after rest) ∙ (ap (λ (front : List ℕ). front ++ rest) (sym is_whole) ∙ whole))
 
 -- rows of which the first begins with 1
-record BeginWithOne (found : List (List Cell)) : Type 0 where
-  first : List Cell
-  others : List (List Cell)
+record BeginWithOne (found : List (List SpelledCell)) : Type 0 where
+  first : List SpelledCell
+  others : List (List SpelledCell)
   rows_are : found ≡ first ∷ others
   begins : BeginsWithOne first
 
-first_row : {body : List ℕ} {found : List (List Cell)} → SpellsRows body found → body ≡ codes "(1,'b')" → BeginWithOne found
+first_row : {body : List ℕ} {found : List (List SpelledCell)} → SpellsRows body found → body ≡ codes "(1,'b')" → BeginWithOne found
 first_row (last_row {cells} {whole} {row} spells is_whole) same = record { first = row; others = []; rows_are = refl; begins = first_cell spells (codes ")") (cc (sym is_whole ∙ same)) }
 first_row (next_row {cells} {rest} {whole} {row} {rows = others} spells after is_whole) same = record { first = row; others = others; rows_are = refl; begins = first_cell spells (codes "),\n" ++ rest) (sym (append_assoc cells (codes "),\n") rest) ∙ cc (sym is_whole ∙ same)) }
 
@@ -109,45 +117,56 @@ only_table name object found = by_test (bytes_eq table name) (bytes_eq-Decides t
     by_test false named found = absurd (cc)
 
 -- such rows have a key that is there
-clash : (found : List (List Cell)) → BeginWithOne found → HasKeys the_table.columns 0 (one ∷ two ∷ found) → ⊥
+clash : (found : List (List SpelledCell)) → BeginWithOne found → HasKeys the_table.columns 0 (one ∷ two ∷ map cells_of found) → ⊥
 clash found begins keys = (subst (λ (found : List (List Cell)). HasKeys the_table.columns 0 (one ∷ two ∷ found)) is keys).distinct 0 2 one (omega arith) (omega arith) refl
   where
-    is : found ≡ (Value (codes "1") ∷ begins.begins.others) ∷ begins.others
-    is = begins.rows_are ∙ ap (λ (first : List Cell). first ∷ begins.others) begins.begins.cells_are
+    is : map cells_of found ≡ (Value (codes "1") ∷ cells_of begins.begins.others) ∷ map cells_of begins.others
+    is = ap (λ (found : List (List SpelledCell)). map cells_of found) begins.rows_are
+        ∙ (ap (λ (first : List SpelledCell). cells_of first ∷ map cells_of begins.others) begins.begins.cells_are
+        ∙ ap (λ (cell : Cell). (cell ∷ cells_of begins.begins.others) ∷ map cells_of begins.others) begins.begins.first_is)
 
 abbrev pub text_of : List ℕ → List ℕ
 text_of spelled = codes "INSERT INTO `t` (`id`,`a`) VALUES\n" ++ spelled
 
 -- the body of an INSERT into the worked table
-pub body_of : (spelled name : List ℕ) (columns : List (List ℕ)) (found : List (List Cell)) → (spells : SpellsInsert (text_of spelled) name columns found) → name ≡ table → columns ≡ plain_names the_table.columns → spelled ≡ spells.body
-body_of spelled name columns found spells is_table all_columns = append_cancel_left (codes "INSERT INTO `t` (`id`,`a`) VALUES\n") spelled spells.body text
+pub body_of : (spelled name : List ℕ) (says : Insertion) → (spells : SpellsInsert (text_of spelled) name says) → name ≡ table → says.columns ≡ plain_names the_table.columns → spelled ≡ spells.body
+body_of spelled name says spells is_table all_columns = append_cancel_left (codes "INSERT INTO `t` (`id`,`a`) VALUES\n") spelled spells.body text
   where
     text : text_of spelled ≡ text_of spells.body
-    text = spells.text_is ∙ (ap (λ (name : List ℕ). codes "INSERT INTO " ++ quoted_name name ++ codes " (" ++ names columns ++ codes ") VALUES\n" ++ spells.body) is_table ∙ ap (λ (columns : List (List ℕ)). codes "INSERT INTO " ++ quoted_name table ++ codes " (" ++ names columns ++ codes ") VALUES\n" ++ spells.body) all_columns)
+    text = spells.text_is ∙ (ap (λ (name : List ℕ). codes "INSERT INTO " ++ quoted_name name ++ codes " (" ++ names says.columns ++ codes ") VALUES\n" ++ spells.body) is_table ∙ ap (λ (columns : List (List ℕ)). codes "INSERT INTO " ++ quoted_name table ++ codes " (" ++ names columns ++ codes ") VALUES\n" ++ spells.body) all_columns)
+
+-- a table of the schema
+abbrev pub in_schema : List ℕ → Need
+in_schema name = record { schema = schema; name = name }
 
 -- and so a row of the key 1 can't be put
-taken : (name : List ℕ) (columns : List (List ℕ)) (found : List (List Cell)) (changes : List Change) → SpellsInsert (text_of (codes "(1,'b')")) name columns found → Inserts database schema name columns found changes → ⊥
-taken name columns found changes spells inserts = clash found (first_row spells.spells (sym (body_of (codes "(1,'b')") name columns found spells is.named named))) keys
+taken : (name : List ℕ) (says : Insertion) (changes : List Change) → SpellsInsert (text_of (codes "(1,'b')")) name says → Inserts server database (in_schema name) says changes → ⊥
+taken name says changes spells inserts = clash says.rows (first_row spells.spells (sym (body_of (codes "(1,'b')") name says spells is.named named))) keys
   where
     is : IsTheTable name inserts.object
     is = only_table name inserts.object inserts.is_there
 
-    named : columns ≡ plain_names the_table.columns
+    named : says.columns ≡ plain_names the_table.columns
     named = inserts.all_columns ∙ ap (λ (object : Object). plain_names object.columns) is.is
 
-    keys : HasKeys the_table.columns 0 (one ∷ two ∷ found)
-    keys = subst (λ (rows : List (List Cell)). HasKeys the_table.columns 0 (rows ++ found)) (rows_are (one ∷ two ∷ [])) (subst (λ (object : Object). HasKeysWhere object.columns object.key (rows_of database schema table ++ found)) is.is (subst (λ (name : List ℕ). HasKeysWhere inserts.object.columns inserts.object.key (rows_of database schema name ++ found)) is.named inserts.keys))
+    of_rows : HasKeysWhere inserts.object.columns inserts.object.key (rows_of database schema table ++ map cells_of says.rows)
+    of_rows = subst (λ (rows : List (List Cell)). HasKeysWhere inserts.object.columns inserts.object.key (rows_of database schema table ++ rows)) inserts.rows_are (subst (λ (name : List ℕ). HasKeysWhere inserts.object.columns inserts.object.key (rows_of database schema name ++ inserts.rows)) is.named inserts.keys)
 
-taken_in : (found_in : Database) (current name : List ℕ) (columns : List (List ℕ)) (found : List (List Cell)) (changes : List Change) → found_in ≡ database → current ≡ schema → SpellsInsert (text_of (codes "(1,'b')")) name columns found → Inserts found_in current name columns found changes → ⊥
-taken_in found_in current name columns found changes same_database same_schema spells inserts =
-    taken name columns found changes spells (subst (λ (current : List ℕ). Inserts database current name columns found changes) same_schema (subst (λ (found_in : Database). Inserts found_in current name columns found changes) same_database inserts))
+    keys : HasKeys the_table.columns 0 (one ∷ two ∷ map cells_of says.rows)
+    keys = subst (λ (rows : List (List Cell)). HasKeys the_table.columns 0 (rows ++ map cells_of says.rows)) (rows_are (one ∷ two ∷ [])) (subst (λ (object : Object). HasKeysWhere object.columns object.key (rows_of database schema table ++ map cells_of says.rows)) is.is of_rows)
 
-found_worked : database_found_by worked ≡ Some database
+-- an INSERT into a table of the current schema of a link that finds this database
+pub inserts_there : (found_in : Database) (current name : List ℕ) (says : Insertion) (changes : List Change) (end : Database) → found_in ≡ end → current ≡ schema → Inserts server found_in (record { schema = current; name = name }) says changes → Inserts server end (in_schema name) says changes
+inserts_there found_in current name says changes end same_database same_schema inserts =
+    subst (λ (current : List ℕ). Inserts server end (record { schema = current; name = name }) says changes) same_schema (subst (λ (found_in : Database). Inserts server found_in (record { schema = current; name = name }) says changes) same_database inserts)
+
+pub found_worked : database_found_by worked ≡ Some database
 unfolding change_db has_object may_make
 found_worked = refl
 
 pub taken_key : FitsNowhere plainly worked (insert (codes "(1,'b')")) []
-taken_key done new effect = taken_in effect.inserts.database effect.schema effect.table effect.columns effect.rows effect.inserts.changes (same_some (sym effect.inserts.found ∙ found_worked)) (same_some (sym effect.is_current)) effect.spells effect.inserts.inserts
+taken_key done new effect = taken effect.table effect.says effect.inserts.changes effect.spells
+    (inserts_there effect.inserts.database effect.schema effect.table effect.says effect.inserts.changes database (same_some (sym effect.inserts.found ∙ found_worked)) (same_some (sym effect.is_current)) effect.inserts.inserts)
 taken_key (rows found) new effect = effect
 taken_key (refused found refusal) new effect = effect
 
@@ -161,35 +180,54 @@ has_next : (cells rest : List ℕ) → has_bytes (codes "),\n") (cells ++ (codes
 has_next [] rest = refl
 has_next (byte ∷ cells) rest = or_right (bytes_eq (codes "),\n") (take 3 (byte ∷ (cells ++ (codes "),\n" ++ rest))))) _ (has_next cells rest)
 
-pub record IsOneRow (found : List (List Cell)) : Type 0 where
-  pub only : List Cell
+pub record IsOneRow (found : List (List SpelledCell)) : Type 0 where
+  pub only : List SpelledCell
   pub rows_are : found ≡ only ∷ []
 
-pub one_row : {body : List ℕ} {found : List (List Cell)} → SpellsRows body found → has_bytes (codes "),\n") body ≡ false → IsOneRow found
+pub one_row : {body : List ℕ} {found : List (List SpelledCell)} → SpellsRows body found → has_bytes (codes "),\n") body ≡ false → IsOneRow found
 one_row (last_row {row} spells is_whole) none = record { only = row; rows_are = refl }
 one_row (next_row {cells} {rest} {whole} {row} {rows = others} spells after is_whole) none = absurd (false≢true (sym none ∙ (ap (λ (body : List ℕ). has_bytes (codes "),\n") body) (is_whole ∙ append_assoc (codes "(" ++ cells) (codes "),\n") rest) ∙ has_next (codes "(" ++ cells) rest)))
 
+-- what is written for a cell spells it, as its kind
+pub spelled_back : (kind : CellKind) (cell : Cell) → has_literal kind (bytes_of cell) ≡ true → IfSome (bytes_of cell) IsBytes → SpellsCell (literal kind (bytes_of cell)) (record { cell = cell; kind = option_map (λ _. kind) (bytes_of cell) })
+spelled_back kind cell has bytes = record { spells = (read_back kind (bytes_of cell) has bytes).spells; kind = sym (read_back kind (bytes_of cell) has bytes).kind_is }
+
 -- what spells rows of one digit
 
-pub spells_digit : (digit : ℕ) → is_number (digit ∷ []) ≡ true → digit < 256 → Spells (digit ∷ []) (Some (digit ∷ []))
-spells_digit digit is small = (read_back Number (Some (digit ∷ [])) is (one_byte digit small)).spells
+abbrev pub number : List ℕ → SpelledCell
+number digits = record { cell = Value digits; kind = Some Number }
 
-pub spells_null : (digit : ℕ) → is_number (digit ∷ []) ≡ true → digit < 256 → SpellsRows (codes "(" ++ (digit ∷ codes ",NULL)")) (row (digit ∷ []) Null ∷ [])
-spells_null digit is small = last_row {cells = digit ∷ codes ",NULL"} (next_cell {bytes = digit ∷ []} {rest = codes "NULL"} (spells_digit digit is small) (last_cell (read_back Text None refl tt).spells) refl) refl
+-- a row of the worked table, with the kind of the literal of its second cell
+abbrev pub spelled_row : List ℕ → Cell → Option CellKind → List SpelledCell
+spelled_row key cell kind = number key ∷ record { cell = cell; kind = kind } ∷ []
 
-pub spells_three : SpellsRows (codes "(3,'c')") (three ∷ [])
-spells_three = last_row {cells = codes "3,'c'"} (next_cell {bytes = codes "3"} {rest = codes "'c'"} (spells_digit 51 refl (omega arith)) (last_cell (read_back Text (Some (codes "c")) refl (one_byte 99 (omega arith))).spells) refl) refl
+pub spells_digit : (digit : ℕ) → is_number (digit ∷ []) ≡ true → digit < 256 → SpellsCell (digit ∷ []) (number (digit ∷ []))
+spells_digit digit is small = spelled_back Number (Value (digit ∷ [])) is (one_byte digit small)
+
+pub spells_null : (digit : ℕ) → is_number (digit ∷ []) ≡ true → digit < 256 → SpellsRows (codes "(" ++ (digit ∷ codes ",NULL)")) (spelled_row (digit ∷ []) Null None ∷ [])
+spells_null digit is small = last_row {cells = digit ∷ codes ",NULL"} (next_cell {bytes = digit ∷ []} {rest = codes "NULL"} (spells_digit digit is small) (last_cell (spelled_back Text Null refl tt)) refl) refl
+
+pub spells_three : SpellsRows (codes "(3,'c')") (spelled_row (codes "3") (Value (codes "c")) (Some Text) ∷ [])
+spells_three = last_row {cells = codes "3,'c'"} (next_cell {bytes = codes "3"} {rest = codes "'c'"} (spells_digit 51 refl (omega arith)) (last_cell (spelled_back Text (Value (codes "c")) refl (one_byte 99 (omega arith)))) refl) refl
+
+-- changes stand among themselves
+pub alone_among : (changes : List Change) → StandAmong changes changes
+alone_among changes = ([], all changes)
+  where
+    all : (changes : List Change) → Interleaves (changes ∷ [] ∷ []) changes
+    all [] = none_left (All-cons (λ (list : List Change). list ≡ []) [] ([] ∷ []) refl (all_of_one (λ (list : List Change). list ≡ []) [] refl))
+    all (change ∷ changes) = takes here (all changes)
 
 -- a row that is spelled can be put into the table, where its key is new and the history stays sound
-pub put_row : (state : State) (before : List (List Cell)) (key : List ℕ) (cell : Cell) (spelled : List ℕ) → state.schema ≡ Some schema → state.pending ≡ None → db state.seen ≡ Some (with_rows before) → SpellsRows spelled (row key cell ∷ []) → are_numbers (plain_columns the_table.columns) (row key cell) ≡ true → HasKeys the_table.columns 0 (before ++ row key cell ∷ [])
-    → MayFollow state (unmarked (put (row key cell) ∷ []) ∷ []) → IsSound (state.seen ++ unmarked (put (row key cell) ∷ []) ∷ []) → Effect state (Insert (text_of spelled)) (with_own state (unmarked (put (row key cell) ∷ [])))
+pub put_row : (state : State) (before : List (List Cell)) (key : List ℕ) (cell : Cell) (kind : Option CellKind) (spelled : List ℕ) → state.schema ≡ Some schema → state.pending ≡ None → db state.seen ≡ Some (with_rows before) → SpellsRows spelled (spelled_row key cell kind ∷ [])
+    → are_numbers (plain_columns the_table.columns) (row key cell) ≡ true → are_spelled_for state.terms.server.prints (plain_columns the_table.columns) (spelled_row key cell kind) ≡ true → HasKeys the_table.columns 0 (before ++ row key cell ∷ [])
+    → MayFollow state (unmarked (put (row key cell) ∷ []) ∷ []) → IsSound state.terms.server (state.seen ++ unmarked (put (row key cell) ∷ []) ∷ []) → Effect state (Insert (text_of spelled)) (with_own state (unmarked (put (row key cell) ∷ [])))
 unfolding change_db
-put_row state before key cell spelled current none stands spells numbers keys follows sound = record {
+put_row state before key cell kind spelled current none stands spells numbers good keys follows sound = record {
   schema = schema;
   is_current = current;
   table = table;
-  columns = plain_names the_table.columns;
-  rows = row key cell ∷ [];
+  says = record { columns = plain_names the_table.columns; rows = spelled_row key cell kind ∷ [] };
   spells = record { body = spelled; text_is = refl; spells = spells };
   inserts = record {
     database = with_rows before;
@@ -199,9 +237,13 @@ put_row state before key cell spelled current none stands spells numbers keys fo
       object = the_table;
       is_there = refl;
       all_columns = refl;
+      rows = row key cell ∷ [];
+      rows_are = refl;
       numbers = all_of_one (λ cells. are_numbers (plain_columns the_table.columns) cells ≡ true) (row key cell) numbers;
-      adds = subst (λ (found : Option TableCounter). AddsTo (are_under the_table.columns found (row key cell ∷ [])) (put (row key cell) ∷ []) (put (row key cell) ∷ [])) (sym no_counter) refl;
+      spelled = all_of_one (λ cells. are_spelled_for state.terms.server.prints (plain_columns the_table.columns) cells ≡ true) (spelled_row key cell kind) good;
       keys = subst (λ (rows : List (List Cell)). HasKeys the_table.columns 0 (rows ++ row key cell ∷ [])) (sym (rows_are before)) keys;
+      puts = alone_among (put (row key cell) ∷ []);
+      plain = λ p. refl;
       new = with_row (with_rows before) schema table (row key cell);
       of_rows = a_row tt refl no_more;
     };
@@ -211,4 +253,4 @@ put_row state before key cell spelled current none stands spells numbers keys fo
 
 -- the row (3,'c') after the worked history
 pub put_three : (guarded : Bool) → MayFollow (record worked { guarded = guarded }) (unmarked (put three ∷ []) ∷ []) → Handles (with_others (record worked { guarded = guarded }) []) (insert (codes "(3,'c')")) done (with_three (record worked { guarded = guarded }))
-put_three guarded follows = put_row (with_others (record worked { guarded = guarded }) []) (one ∷ two ∷ []) (codes "3") (Value (codes "c")) (codes "(3,'c')") refl refl stands spells_three refl (keys_of (a ∷ []) (one ∷ two ∷ three ∷ []) (1 ∷ 2 ∷ 3 ∷ []) refl refl) follows sound_with_three
+put_three guarded follows = put_row (with_others (record worked { guarded = guarded }) []) (one ∷ two ∷ []) (codes "3") (Value (codes "c")) (Some Text) (codes "(3,'c')") refl refl stands spells_three refl refl (keys_of (a ∷ []) (one ∷ two ∷ three ∷ []) (1 ∷ 2 ∷ 3 ∷ []) refl refl) follows sound_with_three

@@ -21,3 +21,7 @@ pub mod Viewing
 pub mod Sending
 pub mod Packing
 pub mod Holding
+pub mod Showing
+pub mod Timing
+pub mod Widening
+pub mod Converting

@@ -39,15 +39,15 @@ of_exchange {state} {new} {message} {reply} exchange one short are = only_messag
 record IsTurnedAway (state : State) (message : List ℕ) (new : State) : Type 0 where
   said : Refusal
   says : reply_of message ≡ Some (Refused said)
-  unwilling : state.terms.willing ≡ false
+  unwilling : state.terms.server.willing ≡ false
   closes : new.phase ≡ over
 
 abbrev IsLoginAnswer : State → List ℕ → State → Type 0
-IsLoginAnswer state message new = (reply_of message ≡ Some Done) ⊎ (((state.phase ≡ greeted) × AsksFor state.terms.plugin message) ⊎ IsTurnedAway state message new)
+IsLoginAnswer state message new = (reply_of message ≡ Some Done) ⊎ (((state.phase ≡ greeted) × AsksFor state.terms.server.plugin message) ⊎ IsTurnedAway state message new)
 
 answers_login : (state new : State) (payload message : List ℕ) (messages : List (List ℕ)) → IsLoggingIn state.phase → ((one : List ℕ) → messages ≡ one ∷ [] → one ≡ message) → Replies plainly state payload messages new → IsLoginAnswer state message new
 answers_login state new payload message messages logging only (accepted in_login spells new_is) = inl (subst (λ (message : List ℕ). reply_of message ≡ Some Done) (only spells.message spells.messages_are) spells.says)
-answers_login state new payload message messages logging only (switched one phase asks lean messages_are new_is) = inr (inl (phase, subst (λ (message : List ℕ). AsksFor state.terms.plugin message) (only one messages_are) asks))
+answers_login state new payload message messages logging only (switched one phase asks lean messages_are new_is) = inr (inl (phase, subst (λ (message : List ℕ). AsksFor state.terms.server.plugin message) (only one messages_are) asks))
 answers_login state new payload message messages logging only (turned_away said in_login unwilling spells new_is) = inr (inr (record { said = said; says = subst (λ (message : List ℕ). reply_of message ≡ Some (Refused said)) (only spells.message spells.messages_are) spells.says; unwilling = unwilling; closes = ap (λ (state : State). state.phase) new_is }))
 answers_login state new payload message messages logging only (quits phase payload_is messages_are new_is) = absurd (subst IsLoggingIn phase logging)
 answers_login state new payload message messages logging only (served text statement reply phase payload_is read_as serves spells) = absurd (subst IsLoggingIn phase logging)
@@ -58,7 +58,7 @@ pub plugin : AnotherPluginIsAskedForOnce
 unfolding packets
 plugin = record {
   allowed = record { payload = 0 ∷ []; is_message = record { id = 1; begins = tt; message_is = refl }; messages = request ∷ []; replies = switched request refl (inl (refl, _, refl)) (λ p. omega arith) refl refl; reply_is = refl };
-  taken = record { payload = 0 ∷ []; is_message = record { id = 3; begins = tt; message_is = refl }; messages = ok ∷ []; replies = accepted tt one_message.allowed refl; reply_is = refl };
+  taken = record { payload = 0 ∷ []; is_message = record { id = 3; begins = tt; message_is = refl }; messages = ok ∷ []; replies = accepted tt (record { message = ok; messages_are = refl; says = refl; lean = λ p. omega arith }) refl; reply_is = refl };
   again = λ new exchange. not_again new (answers_login (native switching) new exchange.payload request exchange.messages tt (λ one are. of_exchange exchange one (omega arith) are) exchange.replies);
   refused = λ new exchange. not_other new (answers_login logging_in new exchange.payload request exchange.messages tt (λ one are. of_exchange exchange one (omega arith) are) exchange.replies);
 }

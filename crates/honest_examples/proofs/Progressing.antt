@@ -12,6 +12,7 @@ use Rattle.server_data.specs.declared.data.Change.TheVariants.{Put}
 use Rattle.server_data.specs.declared.data.Database.{Database}
 use Rattle.sql_cells.specs.declared.cell.Cell.{Cell}
 use Rattle.sql_cells.specs.declared.cell.Cell.TheVariants.{Value}
+use Rattle.sql_cells.specs.declared.cell_kind.CellKind.TheVariants.{Text}
 use Rattle.statement_forms.specs.Text.{command_text}
 use Rattle.statement_forms.specs.declared.command.Command.TheVariants.{CreateProgress, CreateProgressFiles, InsertProgressFile}
 use Rattle.statement_forms.specs.declared.statement.Statement.TheVariants.{Command as SomeCommand}
@@ -19,17 +20,19 @@ use Rattle.honest_server.specs.Answer.{object_at, progress_schema}
 use Rattle.honest_server.specs.Catalogue.{a_row, no_more}
 use Rattle.honest_server.specs.Columns.{are_numbers, plain_columns}
 use Rattle.honest_server.specs.Effect.{IsMade}
-use Rattle.honest_server.specs.Insert.{AddsTo, are_under}
+use Rattle.honest_server.specs.Insert.{are_spelled_for}
 use Rattle.honest_server.specs.Moves.{plainly}
 use Rattle.honest_server.specs.Serve.{FitsNowhere, done, refused, rows}
 use Rattle.honest_server.specs.State.{with_own}
 use Rattle.honest_server.specs.WellFormed.{HasGoodMark, HasGoodRows, HasItsHead, IsCountedWhere, IsShaped, IsSound, IsWellFormedObject, is_name}
 use Rattle.honest_examples.specs.Effects.{link}
+use Rattle.honest_examples.specs.Worked.{server}
 use Rattle.honest_examples.specs.Progress.{TheProgressIsKept, file, makes_files, makes_schema, puts_file, the_files, the_schema, with_file}
 use Rattle.honest_examples.proofs.Bags.{same_rows}
 use Rattle.honest_examples.proofs.Commanding.{free, may_follow}
+use Rattle.honest_examples.proofs.Inserting.{alone_among}
 use Rattle.honest_examples.proofs.Serving.{refuses, serves_done}
-use Rattle.honest_examples.proofs.Soundness.{all_of_one}
+use Rattle.honest_examples.proofs.Soundness.{all_of_one, printed_in}
 use Rattle.plain_data.proofs.Options.{same_some}
 
 -- what the texts say
@@ -75,25 +78,27 @@ good_files end names of_end numbers = record { named = files_named; in_schema = 
     good : HasGoodRows the_files names
     good = record { numbers = numbers; keys = tt; counted = subst (λ (found : Option TableCounter). IsCountedWhere the_files.columns found names) (sym no_counter) tt }
 
-sound_alone : IsSound (makes_schema ∷ [])
+sound_alone : IsSound server (makes_schema ∷ [])
 unfolding change_db has_object may_make
-sound_alone = record { database = alone; stands = refl; well_formed = record { objects = all_of_one (IsWellFormedObject alone) the_schema (good_schema alone) }; marks = all_of_one HasGoodMark makes_schema tt }
+sound_alone = record { database = alone; stands = refl; well_formed = record { objects = all_of_one (IsWellFormedObject alone) the_schema (good_schema alone) }; printed = printed_in _ (the_schema ∷ []) refl; marks = all_of_one HasGoodMark makes_schema tt }
 
-sound_files : IsSound (makes_schema ∷ makes_files ∷ [])
+sound_files : IsSound server (makes_schema ∷ makes_files ∷ [])
 unfolding change_db has_object may_make rows_of
 sound_files = record {
   database = with_files [];
   stands = refl;
   well_formed = record { objects = All-cons (IsWellFormedObject (with_files [])) the_schema (the_files ∷ []) (good_schema (with_files [])) (all_of_one (IsWellFormedObject (with_files [])) the_files (good_files (with_files []) [] refl (All-nil _))) };
+  printed = printed_in (with_files []) (the_schema ∷ the_files ∷ []) refl;
   marks = All-cons HasGoodMark makes_schema (makes_files ∷ []) tt (all_of_one HasGoodMark makes_files tt);
 }
 
-sound_file : IsSound (makes_schema ∷ makes_files ∷ puts_file ∷ [])
+sound_file : IsSound server (makes_schema ∷ makes_files ∷ puts_file ∷ [])
 unfolding change_db has_object may_make rows_of
 sound_file = record {
   database = with_file;
   stands = refl;
   well_formed = record { objects = All-cons (IsWellFormedObject with_file) the_schema (the_files ∷ []) (good_schema with_file) (all_of_one (IsWellFormedObject with_file) the_files (good_files with_file ((Value file ∷ []) ∷ []) refl (all_of_one (λ row. are_numbers (plain_columns the_files.columns) row ≡ true) (Value file ∷ []) refl))) };
+  printed = printed_in with_file (the_schema ∷ the_files ∷ []) refl;
   marks = All-cons HasGoodMark makes_schema (makes_files ∷ puts_file ∷ []) tt (All-cons HasGoodMark makes_files (puts_file ∷ []) tt (all_of_one HasGoodMark puts_file tt));
 }
 
@@ -109,11 +114,11 @@ stands_files = refl
 
 made_schema : IsMade (link [] None) (record { objects = []; rows = [] }) (command_text CreateProgress) the_schema
 unfolding tokens command_text
-made_schema = record { text_is = refl; found = _; is_making = refl; kind = refl; name = refl; schema = refl; settings = refl; shape = record { columns = refl; key = refl }; place = (refl, refl) }
+made_schema = record { text_is = refl; found = _; is_making = refl; kind = refl; name = refl; schema = refl; settings = refl; shape = record { columns = refl; key = refl }; place = record { rank = refl; needs = refl } }
 
 made_files : IsMade (link (makes_schema ∷ []) None) alone (command_text CreateProgressFiles) the_files
 unfolding tokens command_text
-made_files = record { text_is = refl; found = _; is_making = refl; kind = refl; name = refl; schema = refl; settings = refl; shape = files_shape; place = (refl, refl) }
+made_files = record { text_is = refl; found = _; is_making = refl; kind = refl; name = refl; schema = refl; settings = refl; shape = files_shape; place = record { rank = refl; needs = refl } }
 
 pub kept : TheProgressIsKept
 unfolding change_db rows_of
@@ -132,8 +137,12 @@ kept = record {
           is_there = refl;
           all_columns = refl;
           numbers = all_of_one (λ row. are_numbers (plain_columns the_files.columns) row ≡ true) (Value file ∷ []) refl;
-          adds = subst (λ (found : Option TableCounter). AddsTo (are_under the_files.columns found ((Value file ∷ []) ∷ [])) (Put progress_schema (codes "files") (Value file ∷ []) ∷ []) (Put progress_schema (codes "files") (Value file ∷ []) ∷ [])) (sym no_counter) refl;
+          rows = (Value file ∷ []) ∷ [];
+          rows_are = refl;
+          spelled = all_of_one (λ row. are_spelled_for server.prints (plain_columns the_files.columns) row ≡ true) (record { cell = Value file; kind = Some Text } ∷ []) refl;
           keys = tt;
+          puts = alone_among (Put progress_schema (codes "files") (Value file ∷ []) ∷ []);
+          plain = λ p. refl;
           new = with_file;
           of_rows = a_row tt refl no_more;
         };

@@ -1,5 +1,5 @@
 -- What a site tells once its links come back.
-use Rattle.std.proofs.Common.{◌≡◌, ℕ, suc, List, [], ◌∷◌, ◌++◌, Some, refl, ap, sym, ◌∙◌, subst, arith, length, get_or, All, ◌⊎◌, inl, inr}
+use Rattle.std.proofs.Common.{◌≡◌, ℕ, suc, List, [], ◌∷◌, ◌++◌, refl, ap, sym, ◌∙◌, subst, arith, length, get_or, All, ◌⊎◌, inl, inr}
 use Rattle.std.proofs.lemmas.Bool.{false≢true, true≢false}
 use Rattle.std.proofs.lemmas.List.Elements.{All-cons, All-nil}
 use Rattle.wire_forms.specs.Packet.{packets}
@@ -12,8 +12,9 @@ use Rattle.server_data.specs.declared.data.Transaction.{Transaction}
 use Rattle.sql_cells.specs.declared.cell.Cell.TheVariants.{Value}
 use Rattle.honest_server.specs.State.{State}
 use Rattle.honest_server.specs.WellFormed.{IsSound, IsWellFormed}
-use Rattle.honest_examples.specs.Sites.{AGrantComesFirst, ANewLinkHasSeenTheHistory, ANewLinkIsGreeted, ConnectingLeavesTheHistory, GrantsArePrefixesOfOneList, LinksPutDifferentKeys, TheHistoryIsToldOnceAllAreBack, of_both, puts_five, puts_four, puts_three, greeting}
-use Rattle.honest_examples.specs.Worked.{database, history, one, three, two, unmarked}
+use Rattle.honest_server.specs.Site.{ServedSite}
+use Rattle.honest_examples.specs.Sites.{AGrantComesFirst, AGreetingIsOfItsServer, ANewLinkHasSeenTheHistory, ANewLinkIsGreeted, ConnectingLeavesTheHistory, GrantsArePrefixesOfOneList, LinksPutDifferentKeys, TheHistoryIsToldOnceAllAreBack, of_both, puts_five, puts_four, puts_three, greeting}
+use Rattle.honest_examples.specs.Worked.{database, history, one, server, three, two, unmarked}
 use Rattle.honest_examples.proofs.Changes.{keeps_nothing}
 use Rattle.honest_examples.proofs.Soundness.{all_of_one, sound, sound_with_three, with_wrong}
 use Rattle.honest_examples.proofs.Worked.{stands}
@@ -26,24 +27,33 @@ first_digit changes = 0
 
 pub new_link : ANewLinkHasSeenTheHistory
 new_link = record {
-  allowed = record { more = []; joined = refl; shared = λ quiet. keeps_nothing history database stands; alone = λ quiet sole. refl; willing = λ quiet willing. refl };
-  more = record { more = puts_three ∷ []; joined = refl; shared = λ quiet. absurd (false≢true quiet); alone = λ quiet sole. absurd (false≢true quiet); willing = λ quiet willing. absurd (false≢true quiet) };
+  allowed = record { more = []; joined = refl; catalogue = λ quiet. keeps_nothing history database stands; alone = λ quiet sole. refl; willing = λ quiet willing. refl };
+  more = record { more = puts_three ∷ []; joined = refl; catalogue = λ quiet. absurd (false≢true quiet); alone = λ quiet sole. absurd (false≢true quiet); willing = λ quiet willing. absurd (false≢true quiet) };
   refused = λ seen. omega (arith, ap (λ (list : List Transaction). length list) (ap (λ (more : List Transaction). history ++ more) (sym (seen.willing refl refl)) ∙ seen.joined));
 }
 
 pub greets : ANewLinkIsGreeted
 unfolding packets
 greets = record {
-  allowed = record { alive = refl; greeting = greeting; greets = record { found = _; says = refl; lean = λ p. omega arith }; waits = refl; seen = new_link.allowed; state_is = refl };
+  allowed = record { alive = refl; greeting = greeting; greets = record { found = _; says = refl; ends = refl; newer = refl; lean = λ p. omega arith }; waits = refl; seen = new_link.allowed; wide = λ p. refl; state_is = refl };
   locked = λ link. absurd (cc (ap (λ (state : State). state.frozen) link.state_is));
   silent = λ link. omega (arith, ap (λ (bytes : List ℕ). length bytes) link.waits, packets_length 0 link.greeting);
+  wide_untold = λ link. absurd (false≢true (link.wide refl));
+}
+
+pub of_server : AGreetingIsOfItsServer
+of_server = record {
+  allowed = record { found = _; says = refl; ends = refl; newer = refl; lean = λ p. omega arith };
+  by_ok = record { found = _; says = refl; ends = refl; newer = refl; lean = λ p. omega arith };
+  other_ending = λ greets. cc (greets.says, greets.ends);
+  other_version = λ greets. cc (greets.says, greets.newer);
 }
 
 pub connects : ConnectingLeavesTheHistory
 connects = record {
-  allowed = record { grows = record { rest = []; joined = refl }; quiet = λ quiet. refl; new_is = refl };
-  more = record { grows = record { rest = puts_three ∷ []; joined = refl }; quiet = λ quiet. absurd (false≢true quiet); new_is = refl };
-  refused = λ connects. omega (arith, ap (λ (list : List Transaction). length list) (connects.quiet refl));
+  allowed = record { grows = record { rest = []; joined = refl }; quiet = λ quiet. refl; wide = λ told. told; new_is = refl };
+  more = record { grows = record { rest = puts_three ∷ []; joined = refl }; quiet = λ quiet. absurd (false≢true quiet); wide = λ told. told; new_is = refl };
+  refused = λ connects. omega (arith, ap (λ (s : ServedSite). length s.history) (connects.quiet refl));
 }
 
 -- interleavings of one list, beside which the others are empty
@@ -84,11 +94,13 @@ pub told : TheHistoryIsToldOnceAllAreBack
 told = record {
   allowed = record {
     grows = record { rest = puts_three ∷ []; joined = refl };
-    told = record { whole = puts_three ∷ []; interleaves = λ quiet. takes here (none_left one_empty); history = λ quiet. refl; told = λ quiet. refl; returned = λ loud. absurd (true≢false loud) };
+    own = record { whole = puts_three ∷ []; interleaves = λ quiet. takes here (none_left one_empty); history = λ quiet. refl; none_left = λ quiet. refl; returned = λ loud. absurd (true≢false loud) };
+    wide = λ told. told;
+    link_wide = λ told. told;
     new_is = refl;
   };
-  nothing_else = λ new back. back.told.history refl ∙ ap (λ (whole : List Transaction). history ++ whole) (only_list (back.told.interleaves refl) (puts_three ∷ []) [] refl no_lists);
-  waits = λ new back. back.told.history refl;
+  nothing_else = λ new back. back.own.history refl ∙ ap (λ (whole : List Transaction). history ++ whole) (only_list (back.own.interleaves refl) (puts_three ∷ []) [] refl no_lists);
+  waits = λ new back. back.own.history refl;
 }
 
 -- grants
@@ -101,7 +113,7 @@ one_list = record {
   allowed = record {
     one = history ++ puts_three ∷ [];
     grants = two_prefixes (history ++ puts_three ∷ []) (history ++ []) (history ++ puts_three ∷ []) (record { rest = []; joined = refl }) (record { rest = puts_three ∷ []; joined = refl });
-    sound = λ quiet none whole order. subst (λ (whole : List Transaction). IsSound (history ++ whole)) (sym (only_list order [] [] refl no_lists)) sound;
+    sound = λ quiet none whole order. subst (λ (whole : List Transaction). IsSound server (history ++ whole)) (sym (only_list order [] [] refl no_lists)) sound;
   };
   refused = λ stays. never stays.one (stays.grants 0 [] (omega arith)) (stays.grants 1 [] (omega arith));
 }
@@ -115,12 +127,12 @@ keys = record {
   allowed = record {
     one = [];
     grants = All-nil _;
-    sound = λ quiet none whole order. subst (λ (whole : List Transaction). IsSound (history ++ whole)) (sym (only_list order (puts_three ∷ []) ([] ∷ []) refl one_empty)) sound_with_three;
+    sound = λ quiet none whole order. subst (λ (whole : List Transaction). IsSound server (history ++ whole)) (sym (only_list order (puts_three ∷ []) ([] ∷ []) refl one_empty)) sound_with_three;
   };
   refused = λ stays. never (stays.sound refl refl (puts_three ∷ puts_three ∷ []) (takes here (takes (there here) (none_left two_empty))));
 }
   where
-    never : IsSound (history ++ (puts_three ∷ puts_three ∷ [])) → ⊥
+    never : IsSound server (history ++ (puts_three ∷ puts_three ∷ [])) → ⊥
     never wrong = (with_wrong (one ∷ two ∷ three ∷ three ∷ []) (subst IsWellFormed (same_some (sym wrong.stands)) wrong.well_formed)).distinct 2 3 one (omega arith) (omega arith) refl
 
 -- two links

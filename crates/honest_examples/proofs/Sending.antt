@@ -1,5 +1,6 @@
 -- What becomes of a message that is sent.
-use Rattle.std.proofs.Common.{◌≡◌, ◌<◌, ℕ, true, false, List, [], ◌∷◌, ◌++◌, Some, None, refl, ap, sym, ◌∙◌, subst, arith, codes, length, drop, ◌⊎◌, inl, inr}
+use Rattle.std.proofs.Common.{◌≡◌, ◌<◌, ℕ, false, List, [], ◌∷◌, ◌++◌, Some, None, refl, ap, sym, ◌∙◌, subst, arith, codes, length, drop, ◌⊎◌, inl, inr}
+use Rattle.std.proofs.lemmas.Bool.{false≢true}
 use Rattle.grammar.specs.Language.{Fixed, Then}
 use Rattle.wire_forms.specs.Packet.{packets}
 use Rattle.my_packets.proofs.Fronts.{same_packets}
@@ -13,11 +14,12 @@ use Rattle.statement_forms.specs.Text.{command_text, query_text}
 use Rattle.statement_forms.specs.declared.command.Command.{Command}
 use Rattle.statement_forms.specs.declared.command.Command.TheVariants.{Commit, Create, CreateProgress, CreateProgressDump, CreateProgressFiles, Insert, InsertProgressDump, InsertProgressFile, Rollback, Start, StartSnapshot, Use}
 use Rattle.statement_forms.specs.declared.query.Query.{Query}
-use Rattle.statement_forms.specs.declared.query.Query.TheVariants.{MasterStatus, CreateDatabase, CreateTable, CreateView, CreateProcedure, CreateFunction, CreateTrigger}
+use Rattle.statement_forms.specs.declared.query.Query.TheVariants.{MasterStatus, BinaryLogStatus, CreateDatabase, CreateTable, CreateView, CreateProcedure, CreateFunction, CreateTrigger, CreateEvent}
 use Rattle.statement_forms.specs.declared.statement.Statement.{Statement}
 use Rattle.statement_forms.specs.declared.statement.Statement.TheVariants.{Command as SomeCommand, Query as SomeQuery}
 use Rattle.honest_server.specs.Effect.{EndsTransaction}
 use Rattle.honest_server.specs.Exchange.{query_payload}
+use Rattle.honest_server.specs.Link.{ServedLink}
 use Rattle.honest_server.specs.Moves.{plainly}
 use Rattle.honest_server.specs.Serve.{Reply, Serves, done, rows, refused}
 use Rattle.honest_server.specs.Spelled.{Spells}
@@ -25,8 +27,8 @@ use Rattle.honest_server.specs.State.{State}
 use Rattle.honest_examples.specs.Effects.{opened}
 use Rattle.honest_examples.specs.Exchanges.{commit}
 use Rattle.honest_examples.specs.Links.{ok_packet}
-use Rattle.honest_examples.specs.Sends.{ACommitMakesNothing, AMessageIsSent, ATransactionIsCommittedAlone, rollback}
-use Rattle.honest_examples.specs.Worked.{history, put, schema, table_text, three, unmarked}
+use Rattle.honest_examples.specs.Sends.{ACommitMakesNothing, AFailedLinkSendsNothing, AMessageIsSent, ATransactionIsCommittedAlone, rollback}
+use Rattle.honest_examples.specs.Worked.{history, put, schema, server, table_text, three, unmarked}
 use Rattle.honest_examples.proofs.Commanding.{commits, free, may_follow}
 use Rattle.honest_examples.proofs.Exchanging.{of_message}
 use Rattle.honest_examples.proofs.Linking.{committed}
@@ -50,12 +52,14 @@ second bytes = 0
 pub query_second : (query : Query) → (second (query_text query) ≡ 69) ⊎ (second (query_text query) ≡ 72)
 unfolding query_text second
 query_second MasterStatus = inr refl
+query_second BinaryLogStatus = inr refl
 query_second (CreateDatabase in_schema) = inr refl
 query_second (CreateTable in_schema name) = inr refl
 query_second (CreateView in_schema name) = inr refl
 query_second (CreateProcedure in_schema name) = inr refl
 query_second (CreateFunction in_schema name) = inr refl
 query_second (CreateTrigger in_schema name) = inr refl
+query_second (CreateEvent in_schema name) = inr refl
 query_second query = inl refl
 
 no_query : (query : Query) → started ≡ query_text query → (second (query_text query) ≡ 69) ⊎ (second (query_text query) ≡ 72) → ⊥
@@ -71,7 +75,7 @@ inserts_nothing : (other : List ℕ) → started ≡ other → AnyInsert other �
 unfolding AnyInsert Then Fixed first
 inserts_nothing other is insert = let begins : started ≡ codes "INSERT INTO " ++ insert.1 = is ∙ (insert.2 ∙ ap (λ (front : List ℕ). front ++ insert.1) insert.3) in omega (arith, ap first begins)
 
-of_command : (command : Command) → CommandHasText command → started ≡ command_text command → (command_row command < 15) ⊎ (SomeCommand command ≡ SomeCommand Start)
+of_command : (command : Command) → CommandHasText command → started ≡ command_text command → (command_row command < 16) ⊎ (SomeCommand command ≡ SomeCommand Start)
 unfolding command_text first
 of_command Start has is = inr refl
 of_command Commit has is = absurd (omega (arith, ap first is))
@@ -86,7 +90,7 @@ of_command (InsertProgressFile name) has is = absurd (omega (arith, ap first is)
 of_command (InsertProgressDump digest) has is = absurd (omega (arith, ap first is))
 of_command command has is = inl (omega arith)
 
-latest : (other : Statement) → IsTextOf other started → (row_of other < 15) ⊎ (other ≡ SomeCommand Start)
+latest : (other : Statement) → IsTextOf other started → (row_of other < 16) ⊎ (other ≡ SomeCommand Start)
 latest (SomeCommand command) is = of_command command is.0 is.1
 latest (SomeQuery query) is = absurd (no_query query is.2 (query_second query))
 
@@ -136,17 +140,24 @@ alone = record {
 
 -- a COMMIT that is sent
 
-not_moved : (reply : Reply) (messages : List (List ℕ)) → Serves plainly opened (SomeCommand Commit) reply opened → Spells true (SomeCommand Commit) reply messages → ⊥
+not_moved : (reply : Reply) (messages : List (List ℕ)) → Serves plainly opened (SomeCommand Commit) reply opened → Spells server (SomeCommand Commit) reply messages → ⊥
 not_moved done messages serves spells = absurd (cc (ap (λ (state : State). state.pending) serves.handles.new_is))
 not_moved (rows found) messages serves spells = spells
 not_moved (refused found said) messages serves spells = commits.allowed.no_err said opened (subst (λ (found : List (List Cell)). Serves plainly opened (SomeCommand Commit) (refused found said) opened) serves.before serves)
 
 pub sent : AMessageIsSent
 sent = record {
-  allowed = record { ok = record { reply = ok_packet; exchanges = committed; waits = refl; alive = refl }; err = tt };
-  handled = record { ok = tt; err = record { failed = refl; left = inl (ok_packet, committed) } };
-  not_handled = record { ok = tt; err = record { failed = refl; left = inr (inr refl) } };
-  refused = λ waiting sends. let told = of_message opened sends.ok.reply opened sends.ok.exchanges refl in not_moved told.reply sends.ok.exchanges.messages told.serves told.spells;
+  allowed = record { ok = (refl, record { reply = ok_packet; exchanges = committed; waits = refl; alive = refl; wide = λ told. told }); err = tt; dead = λ failed. absurd (false≢true failed) };
+  handled = record { ok = tt; err = λ alive. record { failed = refl; wide = λ told. told; left = inl (ok_packet, committed) }; dead = λ failed. absurd (false≢true failed) };
+  not_handled = record { ok = tt; err = λ alive. record { failed = refl; wide = λ told. told; left = inr (inr refl) }; dead = λ failed. absurd (false≢true failed) };
+  refused = λ waiting sends. let told = of_message opened sends.ok.1.reply opened sends.ok.1.exchanges refl in not_moved told.reply sends.ok.1.exchanges.messages told.serves told.spells;
+}
+
+pub sends_nothing : AFailedLinkSendsNothing
+sends_nothing = record {
+  allowed = record { ok = tt; err = λ alive. absurd (false≢true (sym alive)); dead = λ failed. refl };
+  sent = λ new sends. false≢true (sym sends.ok.0);
+  refused = λ sends. absurd (cc (ap (λ (link : ServedLink). link.state.pending) (sends.dead refl)));
 }
 
 -- what makes an object

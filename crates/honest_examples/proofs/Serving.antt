@@ -14,9 +14,9 @@ use Rattle.honest_examples.specs.Effects.{IsRefused, IsServed}
 
 -- the link is the only one to a quiet site of a willing server
 pub record IsAlone (state : State) : Type 0 where
-  pub quiet : state.terms.quiet ≡ true
+  pub quiet : state.terms.server.quiet ≡ true
   pub sole : state.terms.sole ≡ true
-  pub willing : state.terms.willing ≡ true
+  pub willing : state.terms.server.willing ≡ true
   pub nothing : SeesOthers state []
   pub same : with_others state [] ≡ state
 

@@ -26,16 +26,16 @@ use Rattle.honest_server.specs.Serve.{Serves, done}
 use Rattle.honest_server.specs.State.{State, no_settings}
 use Rattle.honest_server.specs.WellFormed.{HasGoodMark, HasItsHead, IsSound, IsWellFormed, IsWellFormedObject, is_name}
 use Rattle.honest_examples.specs.Routines.{ARoutineIsShownWithItsSettings, SettingsAreOfTheNextObject, making, procedure_text, reading, settings, shown, the_procedure, the_view, view_text, with_procedure, with_settings}
-use Rattle.honest_examples.specs.Worked.{schema, schema_alone, the_schema, unmarked}
+use Rattle.honest_examples.specs.Worked.{schema, schema_alone, server, the_schema, unmarked}
 use Rattle.honest_examples.proofs.Commanding.{free}
 use Rattle.honest_examples.proofs.Serving.{IsAlone, serves_done, serves_rows}
-use Rattle.honest_examples.proofs.Soundness.{all_of_one, good_schema}
+use Rattle.honest_examples.proofs.Soundness.{all_of_one, good_schema, printed_in}
 use Rattle.honest_examples.proofs.Worked.{schema_named, stands_alone}
 use Rattle.plain_data.proofs.Options.{same_some}
 
 -- the two objects are well-formed
 
-procedure_head : HasItsHead the_procedure
+pub procedure_head : HasItsHead the_procedure
 unfolding tokens
 procedure_head = record { found = _; is_making = refl; kind = refl; name = refl; schema = tt; own = λ e. cc }
 
@@ -43,7 +43,7 @@ view_head : HasItsHead the_view
 unfolding tokens
 view_head = record { found = _; is_making = refl; kind = refl; name = refl; schema = tt; own = λ e. cc }
 
-procedure_named : is_name (codes "p") ≡ true
+pub procedure_named : is_name (codes "p") ≡ true
 unfolding is_utf8 chars encode
 procedure_named = refl
 
@@ -52,53 +52,53 @@ unfolding is_utf8 chars encode
 view_named = refl
 
 -- the schema and one of them
-abbrev beside_schema : Object → Database
+abbrev pub beside_schema : Object → Database
 beside_schema object = record { objects = the_schema ∷ object ∷ []; rows = [] }
 
 good_procedure : (end : Database) → IsWellFormedObject end the_procedure
-good_procedure end = record { named = procedure_named; in_schema = schema_named; head = procedure_head; settings = (settings, refl); shape = record { columns = refl; key = refl }; table = tt; rows = tt; needs = All-nil _; rank = omega arith }
+good_procedure end = record { named = procedure_named; in_schema = schema_named; head = procedure_head; settings = record { made = settings; settings_are = refl; no_zone = refl }; shape = record { columns = refl; key = refl }; table = tt; rows = tt; needs = All-nil _; rank = omega arith }
 
 good_view : (end : Database) → IsWellFormedObject end the_view
-good_view end = record { named = view_named; in_schema = schema_named; head = view_head; settings = (record settings { sql_mode = [] }, refl, refl); shape = record { columns = refl; key = refl }; table = tt; rows = tt; needs = All-nil _; rank = omega arith }
+good_view end = record { named = view_named; in_schema = schema_named; head = view_head; settings = (record { made = record settings { sql_mode = [] }; settings_are = refl; no_zone = refl }, refl); shape = record { columns = refl; key = refl }; table = tt; rows = tt; needs = All-nil _; rank = omega arith }
 
-good_marks : (object : Object) → All HasGoodMark (schema_alone ++ unmarked (Make object ∷ []) ∷ [])
+pub good_marks : (object : Object) → All HasGoodMark (schema_alone ++ unmarked (Make object ∷ []) ∷ [])
 good_marks object = All-cons HasGoodMark (unmarked (Make the_schema ∷ [])) (unmarked (Make object ∷ []) ∷ []) tt (all_of_one HasGoodMark (unmarked (Make object ∷ [])) tt)
 
-well_formed : (object : Object) → IsWellFormedObject (beside_schema object) object → IsWellFormed (beside_schema object)
+pub well_formed : (object : Object) → IsWellFormedObject (beside_schema object) object → IsWellFormed (beside_schema object)
 well_formed object good = record { objects = All-cons (IsWellFormedObject (beside_schema object)) the_schema (object ∷ []) (good_schema (beside_schema object)) (all_of_one (IsWellFormedObject (beside_schema object)) object good) }
 
-sound_procedure : IsSound with_procedure
+pub sound_procedure : IsSound server with_procedure
 unfolding change_db has_object may_make
-sound_procedure = record { database = beside_schema the_procedure; stands = refl; well_formed = well_formed the_procedure (good_procedure _); marks = good_marks the_procedure }
+sound_procedure = record { database = beside_schema the_procedure; stands = refl; well_formed = well_formed the_procedure (good_procedure _); printed = printed_in _ (the_schema ∷ the_procedure ∷ []) refl; marks = good_marks the_procedure }
 
-sound_view : IsSound (schema_alone ++ unmarked (Make the_view ∷ []) ∷ [])
+sound_view : IsSound server (schema_alone ++ unmarked (Make the_view ∷ []) ∷ [])
 unfolding change_db has_object may_make
-sound_view = record { database = beside_schema the_view; stands = refl; well_formed = well_formed the_view (good_view _); marks = good_marks the_view }
+sound_view = record { database = beside_schema the_view; stands = refl; well_formed = well_formed the_view (good_view _); printed = printed_in _ (the_schema ∷ the_view ∷ []) refl; marks = good_marks the_view }
 
 -- and they are made
 
-alone : Database
+abbrev pub alone : Database
 alone = record { objects = the_schema ∷ []; rows = [] }
 
 made_procedure : IsMade (with_settings settings) alone procedure_text the_procedure
 unfolding tokens
-made_procedure = record { text_is = refl; found = _; is_making = refl; kind = refl; name = refl; schema = refl; settings = refl; shape = record { columns = refl; key = refl }; place = (refl, refl) }
+made_procedure = record { text_is = refl; found = _; is_making = refl; kind = refl; name = refl; schema = refl; settings = refl; shape = record { columns = refl; key = refl }; place = record { rank = refl; needs = refl } }
 
 made_view : IsMade (with_settings settings) alone view_text the_view
 unfolding tokens
 made_view = record { text_is = refl; found = _; is_making = refl; kind = refl; name = refl; schema = refl; settings = refl; shape = record { columns = refl; key = refl }; place = refl }
 
-lone : (made : Settings) → IsAlone (with_settings made)
+pub lone : (made : Settings) → IsAlone (with_settings made)
 lone made = record {
   quiet = refl;
   sole = refl;
   willing = refl;
-  nothing = record { follows = record { frozen = λ p. refl; guarded = λ p. absurd (false≢true p); shared = λ p q. absurd (true≢false q) }; sole = λ p q. refl; willing = λ p q. refl };
+  nothing = record { follows = record { frozen = λ p. refl; guarded = λ p. absurd (false≢true p); catalogue = λ p q. absurd (true≢false q) }; sole = λ p q. refl; willing = λ p q. refl };
   same = refl;
 }
 
 follows : (more : List Transaction) → MayFollow (with_settings settings) more
-follows more = record { frozen = λ p. absurd (false≢true p); guarded = λ p. absurd (false≢true p); shared = λ p q. absurd (true≢false q) }
+follows more = record { frozen = λ p. absurd (false≢true p); guarded = λ p. absurd (false≢true p); catalogue = λ p q. absurd (true≢false q) }
 
 -- what a transaction's last changes are, and the object that they make
 abbrev last : List Transaction → List Change
@@ -118,7 +118,7 @@ mode_of None = []
 mode_of (Some made) = made.sql_mode
 
 pub next_object : SettingsAreOfTheNextObject
-unfolding has_object alone
+unfolding has_object
 next_object = record {
   mode = serves_done (with_settings no_settings) (SomeCommand (SqlMode (codes "ANSI"))) (with_settings (record no_settings { sql_mode = codes "ANSI" })) (lone no_settings) refl;
   client = serves_done (with_settings (record settings { client = [] })) (SomeCommand (CharacterSetClient (codes "utf8mb4"))) (with_settings settings) (lone (record settings { client = [] })) refl;
@@ -152,14 +152,14 @@ stands = refl
 pub routine : ARoutineIsShownWithItsSettings
 routine = record {
   allowed = serves_rows reading (SomeQuery (CreateProcedure schema (codes "p"))) (shown (codes "ANSI") (Value procedure_text)) reading (free with_procedure (Some schema) false None None refl)
-      (record { database = beside_schema the_procedure; stands = stands; answers = record { settings = settings; settings_are = refl; first = Value (codes "p"); text = Value procedure_text; more = []; text_is = inl refl; rows_are = refl }; told = λ p. refl }, refl);
+      (record { database = beside_schema the_procedure; stands = stands; answers = record { settings = settings; settings_are = refl; first = Value (codes "p"); text = Value procedure_text; more = []; text_is = inl refl; rows_are = refl }; texts = λ p. refl }, refl);
   withheld = record {
     more = [];
-    sees = record { follows = record { frozen = λ p. refl; guarded = λ p. absurd (false≢true p); shared = λ p q. absurd (true≢false q) }; sole = λ p q. refl; willing = λ p q. refl };
-    handles = (record { database = beside_schema the_procedure; stands = stands; answers = record { settings = settings; settings_are = refl; first = Value (codes "p"); text = Null; more = []; text_is = inr refl; rows_are = refl }; told = λ p. absurd (false≢true p) }, refl);
+    sees = record { follows = record { frozen = λ p. refl; guarded = λ p. absurd (false≢true p); catalogue = λ p q. absurd (true≢false q) }; sole = λ p q. refl; willing = λ p q. refl };
+    handles = (record { database = beside_schema the_procedure; stands = stands; answers = record { settings = settings; settings_are = refl; first = Value (codes "p"); text = Null; more = []; text_is = inr refl; rows_are = refl }; texts = λ p. absurd (false≢true p) }, refl);
     ends = tt;
   };
-  kept = λ new served. false≢true (served.handles.0.told refl);
+  kept = λ new served. false≢true (served.handles.0.texts refl);
   refused = λ new served. never served.handles.0.database (same_some (sym served.handles.0.stands ∙ (ap (λ (more : List Transaction). db (with_procedure ++ more)) (served.sees.sole refl refl) ∙ stands))) served.handles.0.answers;
 }
   where

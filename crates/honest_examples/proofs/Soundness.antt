@@ -12,17 +12,37 @@ use Rattle.server_data.specs.Fold.{change_db, db, has_object, may_make, rows_of}
 use Rattle.server_data.specs.declared.data.Change.{Change}
 use Rattle.server_data.specs.declared.data.Change.TheVariants.{Make}
 use Rattle.server_data.specs.declared.data.Database.{Database}
+use Rattle.server_data.specs.declared.data.Object.{Object}
 use Rattle.server_data.specs.declared.data.Transaction.{Transaction}
 use Rattle.sql_cells.specs.declared.cell.Cell.{Cell}
-use Rattle.sql_cells.specs.declared.cell.Cell.TheVariants.{Null}
-use Rattle.honest_server.specs.Columns.{are_numbers, integer_at, is_in_type, plain_columns}
-use Rattle.honest_server.specs.WellFormed.{HasGoodMark, HasGoodRows, HasKeys, IsCountedWhere, IsSound, IsWellFormed, IsWellFormedObject}
+use Rattle.sql_cells.specs.declared.cell.Cell.TheVariants.{Null, Value}
+use Rattle.honest_server.specs.Columns.{are_numbers, are_printed, integer_at, is_in_type, is_json, plain_columns}
+use Rattle.honest_server.specs.WellFormed.{HasGoodMark, HasGoodRows, HasKeys, IsCountedWhere, IsPrinted, IsSound, IsWellFormed, IsWellFormedObject}
 use Rattle.honest_examples.specs.Databases.{AKeyIsAnInteger, APositionHasAFile, NoTwoRowsHaveOneKey, TheHistoryMakesTheDatabase}
-use Rattle.honest_examples.specs.Worked.{a, database, history, id, no_rows, one, one_again, put, row, schema_alone, the_schema, the_table, three, two, unmarked, with_rows, schema, table}
+use Rattle.honest_examples.specs.Worked.{a, database, history, id, no_rows, one, one_again, put, row, schema_alone, server, the_schema, the_table, three, two, unmarked, with_rows, schema, table}
 use Rattle.honest_examples.proofs.Worked.{no_counter, rows_are, schema_head, schema_named, stands, stands_alone, stands_empty, table_head, table_named, table_shape}
 
 pub all_of_one : {X : Type 0} (P : X → Type 0) → (one : X) → P one → All P (one ∷ [])
 all_of_one P one holds = All-cons P one [] holds (All-nil P)
+
+-- no column is of JSON texts
+abbrev pub no_json : List Column → Bool
+no_json columns = list_all (λ column. not (is_json column)) columns
+
+printed_row : (columns : List Column) (cells : List Cell) → no_json columns ≡ true → are_printed server.prints columns cells ≡ true
+printed_row [] cells none = refl
+printed_row (column ∷ columns) [] none = refl
+printed_row (column ∷ columns) (Null ∷ cells) none = printed_row columns cells (and_right (not (is_json column)) (no_json columns) none)
+printed_row (column ∷ columns) (Value bytes ∷ cells) none = rw (and_left (not (is_json column)) (no_json columns) none) (printed_row columns cells (and_right (not (is_json column)) (no_json columns) none))
+
+-- rows of objects without such columns are as the server prints them
+pub printed_in : (end : Database) (objects : List Object) → list_all (λ object. no_json (plain_columns object.columns)) objects ≡ true → All (IsPrinted server.prints end) objects
+printed_in end [] none = All-nil _
+printed_in end (object ∷ objects) none = All-cons (IsPrinted server.prints end) object objects (each (rows_of end object.schema object.name)) (printed_in end objects (and_right (no_json (plain_columns object.columns)) (list_all (λ object. no_json (plain_columns object.columns)) objects) none))
+  where
+    each : (rows : List (List Cell)) → All (λ row. are_printed server.prints (plain_columns object.columns) row ≡ true) rows
+    each [] = All-nil _
+    each (row ∷ rows) = All-cons (λ row. are_printed server.prints (plain_columns object.columns) row ≡ true) row rows (printed_row (plain_columns object.columns) row (and_left (no_json (plain_columns object.columns)) (list_all (λ object. no_json (plain_columns object.columns)) objects) none)) (each rows)
 
 abbrev differs : ℕ → ℕ → Bool
 differs number other = not (number == other)
@@ -100,8 +120,8 @@ pub with_good_rows : (rows : List (List Cell)) → list_all (are_numbers (plain_
 with_good_rows rows numbers keys = record { objects = All-cons (IsWellFormedObject (with_rows rows)) the_schema (the_table ∷ []) (good_schema (with_rows rows)) (all_of_one (IsWellFormedObject (with_rows rows)) the_table (good_table (with_rows rows) rows (rows_are rows) numbers keys)) }
 
 -- a history that ends there is sound
-pub sound_with : (whole : List Transaction) (rows : List (List Cell)) (numbers : List ℕ) → db whole ≡ Some (with_rows rows) → All HasGoodMark whole → list_all (are_numbers (plain_columns the_table.columns)) rows ≡ true → map (integer_at the_table.columns 0) rows ≡ map some_key numbers → are_keys numbers ≡ true → IsSound whole
-sound_with whole rows numbers ends marks are_numbers read keys = record { database = with_rows rows; stands = ends; well_formed = with_good_rows rows are_numbers (keys_of (a ∷ []) rows numbers read keys); marks = marks }
+pub sound_with : (whole : List Transaction) (rows : List (List Cell)) (numbers : List ℕ) → db whole ≡ Some (with_rows rows) → All HasGoodMark whole → list_all (are_numbers (plain_columns the_table.columns)) rows ≡ true → map (integer_at the_table.columns 0) rows ≡ map some_key numbers → are_keys numbers ≡ true → IsSound server whole
+sound_with whole rows numbers ends marks are_numbers read keys = record { database = with_rows rows; stands = ends; well_formed = with_good_rows rows are_numbers (keys_of (a ∷ []) rows numbers read keys); printed = printed_in (with_rows rows) (the_schema ∷ the_table ∷ []) refl; marks = marks }
 
 good_marks : All HasGoodMark history
 good_marks zero one within = tt
@@ -123,23 +143,28 @@ good_marks_with after = All-append HasGoodMark history (map unmarked after) good
 well_formed : IsWellFormed database
 well_formed = with_good_rows (one ∷ two ∷ []) refl (keys_of (a ∷ []) (one ∷ two ∷ []) (1 ∷ 2 ∷ []) refl refl)
 
-pub sound : IsSound history
+pub sound : IsSound server history
 sound = sound_with history (one ∷ two ∷ []) (1 ∷ 2 ∷ []) stands good_marks refl refl refl
 
-pub sound_with_three : IsSound (history ++ unmarked (put three ∷ []) ∷ [])
+pub sound_with_three : IsSound server (history ++ unmarked (put three ∷ []) ∷ [])
 unfolding change_db has_object may_make
 sound_with_three = sound_with (history ++ unmarked (put three ∷ []) ∷ []) (one ∷ two ∷ three ∷ []) (1 ∷ 2 ∷ 3 ∷ []) refl (good_marks_with ((put three ∷ []) ∷ [])) refl refl refl
 
+pub sound_with_none : IsSound server (history ++ unmarked [] ∷ [])
+unfolding change_db has_object may_make
+sound_with_none = sound_with (history ++ unmarked [] ∷ []) (one ∷ two ∷ []) (1 ∷ 2 ∷ []) refl (good_marks_with ([] ∷ [])) refl refl refl
+
 -- and the schema alone, and with an empty table
-pub sound_alone : IsSound schema_alone
+pub sound_alone : IsSound server schema_alone
 sound_alone = record {
   database = record { objects = the_schema ∷ []; rows = [] };
   stands = stands_alone;
   well_formed = record { objects = All-cons (IsWellFormedObject (record { objects = the_schema ∷ []; rows = [] })) the_schema [] (good_schema _) (All-nil _) };
+  printed = printed_in _ (the_schema ∷ []) refl;
   marks = All-cons HasGoodMark (unmarked (Make the_schema ∷ [])) [] tt (All-nil _);
 }
 
-pub sound_empty : IsSound no_rows
+pub sound_empty : IsSound server no_rows
 sound_empty = sound_with no_rows [] [] stands_empty (All-cons HasGoodMark (unmarked (Make the_schema ∷ [])) (unmarked (Make the_table ∷ []) ∷ []) tt (All-cons HasGoodMark (unmarked (Make the_table ∷ [])) [] tt (All-nil _))) refl refl refl
 
 pub ends : TheHistoryMakesTheDatabase

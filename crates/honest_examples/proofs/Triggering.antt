@@ -4,6 +4,7 @@ use Rattle.std.specs.Prelude.{option_and_then}
 use Rattle.std.specs.Fmt.{digits}
 use Rattle.std.specs.Str.{chars, is_utf8}
 use lib.Utf8.{encode}
+use Rattle.std.proofs.lemmas.Bool.{false≢true}
 use Rattle.std.proofs.lemmas.List.Elements.{All-cons, All-nil}
 use Rattle.object_forms.specs.Head.{Making, making}
 use Rattle.object_forms.specs.Token.{tokens}
@@ -20,6 +21,7 @@ use Rattle.server_data.specs.declared.data.Object.{Object}
 use Rattle.server_data.specs.declared.data.Transaction.{Transaction}
 use Rattle.sql_cells.specs.declared.cell.Cell.{Cell}
 use Rattle.sql_cells.specs.declared.cell.Cell.TheVariants.{Value}
+use Rattle.sql_cells.specs.declared.cell_kind.CellKind.TheVariants.{Text}
 use Rattle.statement_forms.specs.declared.command.Command.TheVariants.{Create}
 use Rattle.statement_forms.specs.declared.statement.Statement.TheVariants.{Command as SomeCommand}
 use Rattle.std.specs.List.{list_all}
@@ -27,19 +29,19 @@ use Rattle.honest_server.specs.Answer.{has_bytes}
 use Rattle.honest_server.specs.Catalogue.{a_row, no_more}
 use Rattle.honest_server.specs.Columns.{are_numbers, plain_columns, plain_names}
 use Rattle.honest_server.specs.Effect.{IsMade}
-use Rattle.honest_server.specs.Insert.{AddsTo, Inserts, SpellsInsert, are_under, is_plain_insert, puts_of}
+use Rattle.honest_server.specs.Insert.{Inserts, Insertion, SpelledCell, SpellsInsert, are_spelled_for, are_under, cells_of, is_plain_insert, puts_of}
 use Rattle.honest_server.specs.Moves.{plainly}
 use Rattle.honest_server.specs.Serve.{FitsNowhere, Handles, Serves, done, refused, rows}
 use Rattle.honest_server.specs.State.{State, no_settings, with_others, with_own}
 use Rattle.honest_server.specs.WellFormed.{HasGoodMark, HasItsHead, HasKeys, IsNamed, IsSound, IsWellFormed, IsWellFormedObject, NeedsItsTable, is_name}
 use Rattle.honest_examples.specs.Effects.{insert, link}
 use Rattle.honest_examples.specs.Triggers.{ATriggerIsMadeOnItsTable, ATriggerIsTold, ATriggerMayPutMore, the_trigger, trigger, trigger_text, two_rows, with_trigger}
-use Rattle.honest_examples.specs.Worked.{a, no_rows, of_table, one, put, schema, schema_alone, table, the_schema, the_table, three, unmarked, with_rows}
+use Rattle.honest_examples.specs.Worked.{a, no_rows, of_table, one, put, schema, schema_alone, server, table, the_schema, the_table, three, unmarked, with_rows}
 use Rattle.honest_examples.proofs.Bags.{same_rows}
 use Rattle.honest_examples.proofs.Commanding.{free, may_follow}
-use Rattle.honest_examples.proofs.Inserting.{IsOneRow, IsTheTable, body_of, one_row, only_table, spells_three, text_of}
+use Rattle.honest_examples.proofs.Inserting.{IsOneRow, IsTheTable, body_of, in_schema, inserts_there, one_row, only_table, spelled_row, spells_three, text_of}
 use Rattle.honest_examples.proofs.Serving.{refuses, serves_done}
-use Rattle.honest_examples.proofs.Soundness.{all_of_one, good_schema, good_table, keys_of}
+use Rattle.honest_examples.proofs.Soundness.{all_of_one, good_schema, good_table, keys_of, printed_in}
 use Rattle.honest_examples.proofs.Worked.{no_counter, schema_named, stands_empty, table_named}
 use Rattle.plain_data.proofs.Options.{same_some}
 
@@ -72,7 +74,7 @@ good_trigger found = record {
   named = named;
   in_schema = schema_named;
   head = head;
-  settings = (no_settings, refl);
+  settings = record { made = no_settings; settings_are = refl; no_zone = refl };
   shape = record { columns = refl; key = refl };
   table = (record { schema = schema; name = table }, needs, refl);
   rows = tt;
@@ -87,9 +89,9 @@ unmarked_ones : (changes : List (List Change)) → All HasGoodMark (map unmarked
 unmarked_ones [] = All-nil _
 unmarked_ones (one ∷ changes) = All-cons HasGoodMark (unmarked one) (map unmarked changes) tt (unmarked_ones changes)
 
-sound : IsSound with_trigger
+sound : IsSound server with_trigger
 unfolding change_db has_object may_make
-sound = record { database = with_all []; stands = refl; well_formed = well_formed [] refl (keys_of (a ∷ []) [] [] refl refl); marks = unmarked_ones ((Make the_schema ∷ []) ∷ (Make the_table ∷ []) ∷ (Make the_trigger ∷ []) ∷ []) }
+sound = record { database = with_all []; stands = refl; well_formed = well_formed [] refl (keys_of (a ∷ []) [] [] refl refl); printed = printed_in _ (the_schema ∷ the_table ∷ the_trigger ∷ []) refl; marks = unmarked_ones ((Make the_schema ∷ []) ∷ (Make the_table ∷ []) ∷ (Make the_trigger ∷ []) ∷ []) }
 
 is_made : IsMade (link no_rows (Some schema)) (with_rows []) trigger_text the_trigger
 unfolding tokens
@@ -150,9 +152,9 @@ is_told = record { allowed = same_rows _; refused = λ answer. absurd (cc (answe
 
 -- two rows for one
 
-sound_two : IsSound (with_trigger ++ unmarked (put three ∷ put one ∷ []) ∷ [])
+sound_two : IsSound server (with_trigger ++ unmarked (put three ∷ put one ∷ []) ∷ [])
 unfolding change_db has_object may_make
-sound_two = record { database = with_all (three ∷ one ∷ []); stands = refl; well_formed = well_formed (three ∷ one ∷ []) refl (keys_of (a ∷ []) (three ∷ one ∷ []) (3 ∷ 1 ∷ []) refl refl); marks = unmarked_ones ((Make the_schema ∷ []) ∷ (Make the_table ∷ []) ∷ (Make the_trigger ∷ []) ∷ (put three ∷ put one ∷ []) ∷ []) }
+sound_two = record { database = with_all (three ∷ one ∷ []); stands = refl; well_formed = well_formed (three ∷ one ∷ []) refl (keys_of (a ∷ []) (three ∷ one ∷ []) (3 ∷ 1 ∷ []) refl refl); printed = printed_in _ (the_schema ∷ the_table ∷ the_trigger ∷ []) refl; marks = unmarked_ones ((Make the_schema ∷ []) ∷ (Make the_table ∷ []) ∷ (Make the_trigger ∷ []) ∷ (put three ∷ put one ∷ []) ∷ []) }
 
 puts_two : Handles (with_others (link with_trigger (Some schema)) []) (insert (codes "(3,'c')")) done (two_rows (link with_trigger (Some schema)))
 unfolding change_db has_object may_make rows_of
@@ -160,8 +162,7 @@ puts_two = record {
   schema = schema;
   is_current = refl;
   table = table;
-  columns = plain_names the_table.columns;
-  rows = three ∷ [];
+  says = record { columns = plain_names the_table.columns; rows = spelled_row (codes "3") (Value (codes "c")) (Some Text) ∷ [] };
   spells = record { body = codes "(3,'c')"; text_is = refl; spells = spells_three };
   inserts = record {
     database = with_all [];
@@ -172,7 +173,11 @@ puts_two = record {
       is_there = refl;
       all_columns = refl;
       numbers = all_of_one (λ cells. are_numbers (plain_columns the_table.columns) cells ≡ true) three refl;
-      adds = (put one ∷ [], takes here (takes (there here) (none_left (All-cons (λ (list : List Change). list ≡ []) [] ([] ∷ []) refl (all_of_one (λ (list : List Change). list ≡ []) [] refl)))));
+      rows = three ∷ [];
+      rows_are = refl;
+      spelled = all_of_one (λ cells. are_spelled_for server.prints (plain_columns the_table.columns) cells ≡ true) (spelled_row (codes "3") (Value (codes "c")) (Some Text)) refl;
+      plain = λ is. absurd (false≢true is);
+      puts = (put one ∷ [], takes here (takes (there here) (none_left (All-cons (λ (list : List Change). list ≡ []) [] ([] ∷ []) refl (all_of_one (λ (list : List Change). list ≡ []) [] refl)))));
       keys = keys_of (a ∷ []) (three ∷ []) (3 ∷ []) refl refl;
       new = with_all (three ∷ one ∷ []);
       of_rows = a_row tt refl (a_row tt refl no_more);
@@ -182,26 +187,23 @@ puts_two = record {
 }
 
 -- without a trigger one row is put for one
-one_for_one : (found_in : Database) (current name : List ℕ) (columns : List (List ℕ)) (found : List (List Cell)) (changes : List Change) → found_in ≡ with_rows [] → current ≡ schema → SpellsInsert (text_of (codes "(3,'c')")) name columns found → Inserts found_in current name columns found changes → length changes ≡ 1
-one_for_one found_in current name columns found changes same_database same_schema spells inserts = alone (subst (λ (current : List ℕ). Inserts (with_rows []) current name columns found changes) same_schema (subst (λ (found_in : Database). Inserts found_in current name columns found changes) same_database inserts))
+one_for_one : (name : List ℕ) (says : Insertion) (changes : List Change) → SpellsInsert (text_of (codes "(3,'c')")) name says → Inserts server (with_rows []) (in_schema name) says changes → length changes ≡ 1
+one_for_one name says changes spells inserts = ap (λ (changes : List Change). length changes) is_put ∙ ap (λ (found : List (List Cell)). length (puts_of the_table found)) (inserts.rows_are ∙ ap (λ (found : List (List SpelledCell)). map cells_of found) row.rows_are)
   where
-    alone : Inserts (with_rows []) schema name columns found changes → length changes ≡ 1
-    alone inserts = ap (λ (changes : List Change). length changes) is_put ∙ ap (λ (found : List (List Cell)). length (puts_of the_table found)) row.rows_are
-      where
-        is : IsTheTable name inserts.object
-        is = only_table name inserts.object inserts.is_there
+    is : IsTheTable name inserts.object
+    is = only_table name inserts.object inserts.is_there
 
-        named_so : columns ≡ plain_names the_table.columns
-        named_so = inserts.all_columns ∙ ap (λ (object : Object). plain_names object.columns) is.is
+    named_so : says.columns ≡ plain_names the_table.columns
+    named_so = inserts.all_columns ∙ ap (λ (object : Object). plain_names object.columns) is.is
 
-        row : IsOneRow found
-        row = one_row spells.spells (ap (λ (body : List ℕ). has_bytes (codes "),\n") body) (sym (body_of (codes "(3,'c')") name columns found spells is.named named_so)))
+    row : IsOneRow says.rows
+    row = one_row spells.spells (ap (λ (body : List ℕ). has_bytes (codes "),\n") body) (sym (body_of (codes "(3,'c')") name says spells is.named named_so)))
 
-        adds : AddsTo (is_plain_insert (with_rows []) the_table found) (puts_of the_table found) changes
-        adds = subst (λ (object : Object). AddsTo (is_plain_insert (with_rows []) object found) (puts_of object found) changes) is.is inserts.adds
+    plain : is_plain_insert (with_rows []) the_table inserts.rows ≡ true → changes ≡ puts_of the_table inserts.rows
+    plain = subst (λ (object : Object). is_plain_insert (with_rows []) object inserts.rows ≡ true → changes ≡ puts_of object inserts.rows) is.is inserts.plain
 
-        is_put : changes ≡ puts_of the_table found
-        is_put = subst (λ (found_counter : Option TableCounter). AddsTo (are_under the_table.columns found_counter found) (puts_of the_table found) changes) no_counter adds
+    is_put : changes ≡ puts_of the_table inserts.rows
+    is_put = plain (ap (λ (found : Option TableCounter). are_under the_table.columns found inserts.rows) no_counter)
 
 pub puts_more : ATriggerMayPutMore
 unfolding change_db has_object may_make
@@ -220,9 +222,10 @@ puts_more = record {
         stands = ap (λ (more : List Transaction). db (no_rows ++ more)) none ∙ stands_empty
 
         single : length served.handles.inserts.changes ≡ 1
-        single = one_for_one served.handles.inserts.database served.handles.schema served.handles.table served.handles.columns served.handles.rows served.handles.inserts.changes
+        single = one_for_one served.handles.table served.handles.says served.handles.inserts.changes served.handles.spells
+            (inserts_there served.handles.inserts.database served.handles.schema served.handles.table served.handles.says served.handles.inserts.changes (with_rows [])
             (same_some (sym served.handles.inserts.found ∙ ap (λ (found : Option Database). option_and_then (λ (database : Database). changes_db database []) found) stands))
-            (same_some (sym served.handles.is_current)) served.handles.spells served.handles.inserts.inserts
+            (same_some (sym served.handles.is_current)) served.handles.inserts.inserts)
 
         last : List Transaction → List Change
         last (one ∷ others) = one.changes

@@ -3,7 +3,7 @@ use Rattle.std.specs.Prelude.{◌≡◌, [], ◌∷◌, ◌++◌, Some, codes}
 use Rattle.server_data.specs.Fold.{db, with_row}
 use Rattle.sql_cells.specs.declared.cell.Cell.TheVariants.{Null}
 use Rattle.honest_server.specs.WellFormed.{IsSound, IsWellFormed}
-use Rattle.honest_examples.specs.Worked.{database, history, marked, one_again, position, put, row, schema, table, unmarked}
+use Rattle.honest_examples.specs.Worked.{database, history, marked, one_again, position, put, row, schema, server, table, unmarked}
 
 -- the worked history ends in the worked database
 pub record TheHistoryMakesTheDatabase : Type 0 where
@@ -21,5 +21,5 @@ pub record AKeyIsAnInteger : Type 0 where
 
 -- a position of the binary log has a file: a history in which one has none isn't sound
 pub record APositionHasAFile : Type 0 where
-  pub allowed : IsSound history
-  pub refused : IsSound (history ++ marked (record position { file = [] }) [] ∷ []) → ⊥
+  pub allowed : IsSound server history
+  pub refused : IsSound server (history ++ marked (record position { file = [] }) [] ∷ []) → ⊥

@@ -1,10 +1,10 @@
 -- What statements do on a link in a session, and where they can't be handled.
-use Rattle.std.specs.Prelude.{ℕ, false, true, List, [], ◌∷◌, ◌++◌, Option, Some, None, codes}
+use Rattle.std.specs.Prelude.{ℕ, ◌≡◌, false, true, List, [], ◌∷◌, ◌++◌, Option, Some, None, codes}
 use Rattle.wire_forms.specs.declared.refusal.Refusal.{Refusal}
 use Rattle.server_data.specs.declared.data.Change.TheVariants.{Make}
 use Rattle.server_data.specs.declared.data.Transaction.{Transaction}
 use Rattle.statement_forms.specs.Form.{form_of}
-use Rattle.statement_forms.specs.declared.command.Command.TheVariants.{Commit, Create, Insert, Rollback, StartSnapshot, Use}
+use Rattle.statement_forms.specs.declared.command.Command.TheVariants.{Commit, Create, Insert, Rollback, Start, StartSnapshot, Use}
 use Rattle.statement_forms.specs.declared.form.Form.TheVariants.{Select}
 use Rattle.statement_forms.specs.declared.query.Query.TheVariants.{Rows}
 use Rattle.statement_forms.specs.declared.statement.Statement.{Statement}
@@ -14,13 +14,13 @@ use Rattle.honest_server.specs.Moves.{plainly}
 use Rattle.honest_server.specs.Serve.{Reply, done, rows, refused, Serves}
 use Rattle.honest_server.specs.State.{State, in_session, no_settings, with_error, with_own}
 use Rattle.honest_examples.specs.Answered.{columns, no_table}
-use Rattle.honest_examples.specs.Worked.{history, no_rows, one, put, schema, schema_alone, table, table_text, the_table, three, two, unmarked}
+use Rattle.honest_examples.specs.Worked.{history, no_rows, one, put, schema, schema_alone, server, table, table_text, the_table, three, two, unmarked}
 
 -- The only link to a quiet site of a willing server, so that all that happens there is its own doing. It is in a session, has seen this
 -- history, which was the site's when it was made, and this is its current schema.
 abbrev pub link : List Transaction → Option (List ℕ) → State
 link seen current = record {
-  terms = record { base = seen; quiet = true; sole = true; willing = true; plugin = [] };
+  terms = record { server = server; base = seen; sole = true };
   phase = in_session;
   seen = seen;
   guarded = false;
@@ -68,11 +68,24 @@ opened = record worked { pending = Some (put three ∷ []) }
 abbrev pub frozen : State → State
 frozen state = record state { frozen = true }
 
--- while the link holds the read lock, it commits no open transaction
+-- while the link holds the read lock, it commits no open transaction with changes
 pub record ACommitWaitsForTheReadLock : Type 0 where
   pub allowed : IsServed opened (SomeCommand Commit) done (with_three opened)
   pub none_open : IsServed (frozen worked) (SomeCommand Commit) done (frozen worked)
   pub refused : IsRefused (frozen opened) (SomeCommand Commit)
+
+-- a transaction is open, and has no changes yet
+abbrev pub begun : State
+begun = record worked { pending = Some [] }
+
+-- A transaction without changes ends under the read lock too, and then commits nothing. Without the lock it may be committed as one
+-- without changes.
+pub record AnEmptyTransactionEndsUnderTheReadLock : Type 0 where
+  pub allowed : IsServed (frozen begun) (SomeCommand Commit) done (frozen worked)
+  pub nothing_else : (new : State) → Serves plainly (frozen begun) (SomeCommand Commit) done new → new ≡ frozen worked
+  pub started : IsServed (frozen begun) (SomeCommand Start) done (frozen begun)
+  pub marked : Serves plainly begun (SomeCommand Commit) done (with_own begun (unmarked []))
+  pub refused : Serves plainly (frozen begun) (SomeCommand Commit) done (with_own (frozen begun) (unmarked [])) → ⊥
 
 -- a table is made in the current schema, where there is one, and the table isn't there yet
 pub record ATableIsMadeInTheCurrentSchema : Type 0 where
@@ -116,7 +129,7 @@ pub record ARollbackDropsTheTransaction : Type 0 where
 
 -- the same link to a site of a server that answers ERR as it likes
 abbrev pub unwilling : State
-unwilling = record worked { terms = record worked.terms { willing = false } }
+unwilling = record worked { terms = record worked.terms { server = record server { willing = false } } }
 
 -- an ERR may come after the first rows of an answer, and after no others
 pub record AnErrBreaksOffAnAnswer : Type 0 where

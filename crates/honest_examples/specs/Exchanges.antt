@@ -1,10 +1,11 @@
 -- The bytes of replies, and what messages are answered by.
-use Rattle.std.specs.Prelude.{ℕ, ◌≡◌, Bool, true, List, [], ◌∷◌, ◌++◌, Some, None, codes}
+use Rattle.std.specs.Prelude.{ℕ, ◌≡◌, List, [], ◌∷◌, ◌++◌, Some, None, codes}
 use Rattle.wire_forms.specs.Packet.{packets}
 use Rattle.wire_forms.specs.KeptText.{kept_text}
 use Rattle.wire_forms.specs.Reply.{reply_of}
 use Rattle.wire_forms.specs.ResultSet.{IsResultSet}
 use Rattle.wire_forms.specs.Row.{Cell as SentCell}
+use Rattle.wire_forms.specs.declared.ends.Ends.TheVariants.{Ok}
 use Rattle.wire_forms.specs.declared.refusal.Refusal.{Refusal}
 use Rattle.wire_forms.specs.declared.reply.Reply.TheVariants.{Done}
 use Rattle.sql_cells.specs.declared.cell.Cell.{Cell}
@@ -16,9 +17,9 @@ use Rattle.honest_server.specs.Exchange.{Exchanges}
 use Rattle.honest_server.specs.Moves.{plainly}
 use Rattle.honest_server.specs.Serve.{Reply, done, rows, refused}
 use Rattle.honest_server.specs.Spelled.{Spells}
-use Rattle.honest_server.specs.State.{State, closed_state, greeted, with_error}
+use Rattle.honest_server.specs.State.{Server, State, closed_state, greeted, with_error}
 use Rattle.honest_examples.specs.Effects.{worked}
-use Rattle.honest_examples.specs.Worked.{schema}
+use Rattle.honest_examples.specs.Worked.{schema, server}
 
 -- an OK: no rows are affected, no id was inserted, autocommit is on, and there are no warnings
 abbrev pub ok : List ℕ
@@ -47,17 +48,40 @@ only name = (Value name ∷ []) ∷ []
 
 -- a command is answered by one message, which is no result set
 pub record ACommandIsAnsweredByOneMessage : Type 0 where
-  pub allowed : Spells true (SomeCommand Commit) done (ok ∷ [])
-  pub err_allowed : Spells true (SomeCommand Commit) (refused [] refusal) (err ∷ [])
-  pub err_is_no_ok : Spells true (SomeCommand Commit) done (err ∷ []) → ⊥
-  pub refused : (willing : Bool) (reply : Reply) (columns : ℕ) (found : List (List SentCell)) (messages : List (List ℕ)) → IsResultSet columns found messages → Spells willing (SomeCommand Commit) reply messages → ⊥
+  pub allowed : Spells server (SomeCommand Commit) done (ok ∷ [])
+  pub err_allowed : Spells server (SomeCommand Commit) (refused [] refusal) (err ∷ [])
+  pub err_is_no_ok : Spells server (SomeCommand Commit) done (err ∷ []) → ⊥
+  pub refused : (of : Server) (reply : Reply) (columns : ℕ) (found : List (List SentCell)) (messages : List (List ℕ)) → IsResultSet of.ends columns found messages → Spells of (SomeCommand Commit) reply messages → ⊥
 
 -- a query is answered by the messages of its rows, after which an ERR may stand in place of the end
 pub record AQueryIsAnsweredByItsRows : Type 0 where
-  pub allowed : Spells true (SomeQuery Schemas) (rows (only schema)) (set_before eof)
-  pub broken_off : Spells true (SomeQuery Schemas) (refused (only schema) refusal) (set_before err)
-  pub other_rows : Spells true (SomeQuery Schemas) (rows (only (codes "ss"))) (set_before eof) → ⊥
-  pub refused : (found : List (List Cell)) → Spells true (SomeQuery Schemas) (rows found) (ok ∷ []) → ⊥
+  pub allowed : Spells server (SomeQuery Schemas) (rows (only schema)) (set_before eof)
+  pub broken_off : Spells server (SomeQuery Schemas) (refused (only schema) refusal) (set_before err)
+  pub other_rows : Spells server (SomeQuery Schemas) (rows (only (codes "ss"))) (set_before eof) → ⊥
+  pub refused : (found : List (List Cell)) → Spells server (SomeQuery Schemas) (rows found) (ok ∷ []) → ⊥
+
+-- a server whose result sets end by an OK with the header fe, and such an OK
+abbrev pub ending_by_ok : Server
+ending_by_ok = record server { ends = Ok }
+
+abbrev pub ending_ok : List ℕ
+ending_ok = 254 ∷ 0 ∷ 0 ∷ 2 ∷ 0 ∷ 0 ∷ 0 ∷ []
+
+-- such an OK with a text after it; without one it has eight bytes, and is an EOF too
+abbrev pub long_ok : List ℕ
+long_ok = ending_ok ++ codes "ok"
+
+-- the same result set without an EOF after the definition
+abbrev pub set_without_eof : List ℕ → List (List ℕ)
+set_without_eof last = (1 ∷ []) ∷ definition ∷ (1 ∷ codes "s") ∷ last ∷ []
+
+-- there no EOF stands in a result set, and where EOF packets end them, no such OK does
+pub record AnOkEndsAResultSet : Type 0 where
+  pub allowed : Spells ending_by_ok (SomeQuery Schemas) (rows (only schema)) (set_without_eof ending_ok)
+  pub broken_off : Spells ending_by_ok (SomeQuery Schemas) (refused (only schema) refusal) (set_without_eof err)
+  pub eof_at_the_end : (found : List (List Cell)) → Spells ending_by_ok (SomeQuery Schemas) (rows found) (set_without_eof eof) → ⊥
+  pub eof_between : (found : List (List Cell)) → Spells ending_by_ok (SomeQuery Schemas) (rows found) (set_before ending_ok) → ⊥
+  pub ok_under_eof : (found : List (List Cell)) → Spells server (SomeQuery Schemas) (rows found) (set_before long_ok) → ⊥
 
 -- COM_QUERY COMMIT as one packet of the id 0
 abbrev pub commit : List ℕ

@@ -12,3 +12,7 @@ pub mod Routines
 pub mod Logins
 pub mod Views
 pub mod Sends
+pub mod Statuses
+pub mod Events
+pub mod WideKeys
+pub mod JsonColumns

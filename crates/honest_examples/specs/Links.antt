@@ -1,18 +1,19 @@
 -- What sending and receiving do to a link.
-use Rattle.std.specs.Prelude.{ℕ, false, true, List, [], ◌∷◌, ◌++◌, None, Ok, Err}
-use Rattle.honest_server.specs.Link.{Breaks, IsAnswered, IsSoundState, Receives, ServedLink}
+use Rattle.std.specs.Prelude.{ℕ, false, true, List, [], ◌∷◌, ◌++◌, Some, None, Ok, Err}
+use Rattle.server_data.specs.declared.data.Transaction.{Transaction}
+use Rattle.honest_server.specs.Link.{Breaks, IsExchanged, IsSoundState, Receives, ServedLink}
 use Rattle.honest_server.specs.Moves.{plainly}
 use Rattle.honest_server.specs.State.{State}
-use Rattle.honest_examples.specs.Effects.{opened, with_three, worked}
+use Rattle.honest_examples.specs.Effects.{opened, viewing, with_three, worked}
 use Rattle.honest_examples.specs.Exchanges.{commit, ok}
-use Rattle.honest_examples.specs.Worked.{history, put, three, unmarked}
+use Rattle.honest_examples.specs.Worked.{history, no_rows, put, server, three, unmarked}
 
 -- on the link nothing waits, and it hasn't failed; or it has
 abbrev pub alive : State → ServedLink
-alive state = record { waiting = []; state = state; failed = false }
+alive state = record { waiting = []; state = state; failed = false; keeps_wide = true }
 
 abbrev pub broken : State → ServedLink
-broken state = record { waiting = []; state = state; failed = true }
+broken state = record { waiting = []; state = state; failed = true; keeps_wide = true }
 
 -- these bytes wait on the worked link
 abbrev pub with_waiting : List ℕ → ServedLink
@@ -24,9 +25,19 @@ ok_packet = 7 ∷ 0 ∷ 0 ∷ 1 ∷ ok
 
 -- once a message is sent its answer waits after what waited before
 pub record TheAnswerWaits : Type 0 where
-  pub allowed : IsAnswered plainly (alive worked) commit (with_waiting ok_packet)
-  pub after : IsAnswered plainly (with_waiting (1 ∷ [])) commit (with_waiting (1 ∷ ok_packet))
-  pub refused : IsAnswered plainly (alive worked) commit (alive worked) → ⊥
+  pub allowed : IsExchanged plainly (alive worked) commit (with_waiting ok_packet)
+  pub after : IsExchanged plainly (with_waiting (1 ∷ [])) commit (with_waiting (1 ∷ ok_packet))
+  pub refused : IsExchanged plainly (alive worked) commit (alive worked) → ⊥
+
+-- the link doesn't tell any more that each wide key stands once
+abbrev pub untold : ServedLink → ServedLink
+untold link = record link { keeps_wide = false }
+
+-- What a link tells of wide keys it may stop telling at a message, and doesn't tell again.
+pub record WideKeysAreToldUntilTheyArent : Type 0 where
+  pub allowed : IsExchanged plainly (alive worked) commit (untold (with_waiting ok_packet))
+  pub stays : IsExchanged plainly (untold (alive worked)) commit (untold (with_waiting ok_packet))
+  pub refused : IsExchanged plainly (untold (alive worked)) commit (with_waiting ok_packet) → ⊥
 
 -- where a link fails at a COMMIT, the open transaction was committed, or is still open
 pub record AFailureLosesNothingByHalves : Type 0 where
@@ -45,3 +56,20 @@ pub record BytesAreReceived : Type 0 where
 pub record ALinkHasSeenItsOwn : Type 0 where
   pub allowed : IsSoundState (with_three worked)
   pub refused : IsSoundState (record worked { seen = history ++ unmarked (put three ∷ []) ∷ [] }) → ⊥
+
+-- a link to a site where others write too, which has committed the row (3,'c')
+abbrev pub among_others : List Transaction → State
+among_others seen = record worked { terms = record worked.terms { server = record server { quiet = false } }; seen = seen; mine = unmarked (put three ∷ []) ∷ [] }
+
+-- what a link has committed is among what it has seen, also where others write
+pub record ALinkHoldsItsOwn : Type 0 where
+  pub allowed : IsSoundState (among_others (history ++ unmarked [] ∷ unmarked (put three ∷ []) ∷ []))
+  pub refused : IsSoundState (among_others history) → ⊥
+
+-- a link's snapshot shows a front of what it has seen, and so does each grant of the read lock
+pub record ASnapshotShowsAFront : Type 0 where
+  pub allowed : IsSoundState viewing
+  pub same : IsSoundState (record worked { view = Some history })
+  pub granted : IsSoundState (record worked { grants = no_rows ∷ history ∷ [] })
+  pub refused : IsSoundState (record worked { view = Some (history ++ unmarked (put three ∷ []) ∷ []) }) → ⊥
+  pub grant_refused : IsSoundState (record worked { grants = (history ++ unmarked (put three ∷ []) ∷ []) ∷ [] }) → ⊥

@@ -7,10 +7,11 @@ use Rattle.honest_server.specs.Moves.{plainly}
 use Rattle.honest_server.specs.State.{Phase, State, greeted, in_session, over, switching, with_error}
 use Rattle.honest_examples.specs.Effects.{worked}
 use Rattle.honest_examples.specs.Exchanges.{err, logging_in, ok, refusal}
+use Rattle.honest_examples.specs.Worked.{server}
 
 -- a link to a server whose accounts have the plugin mysql_native_password, in this phase
 abbrev pub native : Phase → State
-native phase = record worked { terms = record worked.terms { plugin = native_password }; phase = phase }
+native phase = record worked { terms = record worked.terms { server = record server { plugin = native_password } }; phase = phase }
 
 -- the client's response, as a packet of this id
 abbrev pub response : ℕ → List ℕ
@@ -39,7 +40,7 @@ pub record AnotherPluginIsAskedForOnce : Type 0 where
 
 -- the same link, before its login, to a server that answers ERR as it likes
 abbrev pub unwilling_login : State
-unwilling_login = record logging_in { terms = record logging_in.terms { willing = false } }
+unwilling_login = record logging_in { terms = record logging_in.terms { server = record server { willing = false } } }
 
 -- a login may be turned away, and the link is then over; a willing server turns none away
 pub record ALoginIsTurnedAway : Type 0 where

@@ -16,7 +16,7 @@ use Rattle.honest_server.specs.Moves.{plainly}
 use Rattle.honest_server.specs.Serve.{Serves, done, rows}
 use Rattle.honest_server.specs.State.{State, no_settings, with_own}
 use Rattle.honest_examples.specs.Effects.{IsServed, link}
-use Rattle.honest_examples.specs.Worked.{schema, schema_alone, the_schema, unmarked}
+use Rattle.honest_examples.specs.Worked.{schema, schema_alone, server, the_schema, unmarked}
 
 abbrev pub procedure_text : List ℕ
 procedure_text = codes "CREATE PROCEDURE `p`() SELECT 1"
@@ -25,7 +25,7 @@ abbrev pub view_text : List ℕ
 view_text = codes "CREATE VIEW `v` AS SELECT 1"
 
 abbrev pub settings : Settings
-settings = record { sql_mode = codes "ANSI"; client = codes "utf8mb4"; collation = codes "utf8mb4_bin" }
+settings = record { sql_mode = codes "ANSI"; client = codes "utf8mb4"; collation = codes "utf8mb4_bin"; zone = [] }
 
 -- the procedure made under these settings, and the view, whose mode is empty
 abbrev pub the_procedure : Object
@@ -60,7 +60,7 @@ abbrev pub reading : State
 reading = link with_procedure (Some schema)
 
 abbrev pub unwilling : State
-unwilling = record reading { terms = record reading.terms { willing = false } }
+unwilling = record reading { terms = record reading.terms { server = record server { willing = false } } }
 
 -- the row that SHOW CREATE PROCEDURE shows, with this mode and this text
 abbrev pub shown : List ℕ → Cell → List (List Cell)

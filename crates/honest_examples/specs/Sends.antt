@@ -33,6 +33,12 @@ pub record AMessageIsSent : Type 0 where
   pub not_handled : Sends {T = ℕ} {E = ℕ} (alive opened) commit (Err 0) (broken opened)
   pub refused : (waiting : List ℕ) → Sends {T = ℕ} {E = ℕ} (alive opened) commit (Ok 0) (record (alive opened) { waiting = waiting }) → ⊥
 
+-- On a link that has failed no message is sent, and nothing changes.
+pub record AFailedLinkSendsNothing : Type 0 where
+  pub allowed : Sends {T = ℕ} {E = ℕ} (broken opened) commit (Err 0) (broken opened)
+  pub sent : (new : ServedLink) → Sends {T = ℕ} {E = ℕ} (broken opened) commit (Ok 0) new → ⊥
+  pub refused : Sends {T = ℕ} {E = ℕ} (broken opened) commit (Err 0) (broken (with_three opened)) → ⊥
+
 -- COMMIT is no object's text, and CREATE TABLE is
 pub record ACommitMakesNothing : Type 0 where
   pub allowed : IsNoCreate commit

@@ -1,11 +1,13 @@
 -- What a site tells once links come back, and two links that are served there side by side.
 use Rattle.std.specs.Prelude.{◌≡◌, Bool, false, true, List, [], ◌∷◌, ◌++◌, codes, ℕ, replicate}
+use Rattle.wire_forms.specs.declared.ends.Ends.TheVariants.{Ok}
 use Rattle.server_data.specs.History.{Interleaves, IsPrefix}
 use Rattle.server_data.specs.declared.data.Transaction.{Transaction}
 use Rattle.sql_cells.specs.declared.cell.Cell.TheVariants.{Null}
 use Rattle.statement_forms.specs.declared.command.Command.TheVariants.{FlushTables, UnlockTables}
 use Rattle.statement_forms.specs.declared.query.Query.TheVariants.{RowsByKey}
 use Rattle.statement_forms.specs.declared.statement.Statement.TheVariants.{Command as SomeCommand, Query as SomeQuery}
+use Rattle.honest_server.specs.Exchange.{IsGreeting}
 use Rattle.honest_server.specs.Link.{ServedLink}
 use Rattle.honest_server.specs.Moves.{beside, plainly}
 use Rattle.honest_server.specs.Serve.{Serves, done, rows}
@@ -13,11 +15,11 @@ use Rattle.honest_server.specs.Site.{Connects, HasSeen, IsNewLink, IsSettled, Se
 use Rattle.honest_server.specs.State.{State, with_others, with_own}
 use Rattle.honest_examples.specs.Answered.{columns, key}
 use Rattle.honest_examples.specs.Effects.{frozen, insert, with_three, worked}
-use Rattle.honest_examples.specs.Worked.{history, one, put, row, schema, table, three, two, unmarked}
+use Rattle.honest_examples.specs.Worked.{history, one, put, row, schema, server, table, three, two, unmarked}
 
 -- a site of a willing server with the worked history, where others write or not
 abbrev pub site : Bool → ServedSite
-site quiet = record { history = history; returned = []; errors = []; grants = []; quiet = quiet; willing = true; plugin = [] }
+site quiet = record { server = record server { quiet = quiet }; history = history; returned = []; errors = []; grants = []; keeps_wide = true }
 
 -- the row (3,'c') is put
 abbrev pub puts_three : Transaction
@@ -31,17 +33,29 @@ pub record ANewLinkHasSeenTheHistory : Type 0 where
 
 -- a server's first message: of version 8.0.35, with a scramble of twenty bytes and the plugin mysql_native_password
 abbrev pub greeting : List ℕ
-greeting = 10 ∷ codes "8.0.35" ++ (0 ∷ 8 ∷ 0 ∷ 0 ∷ 0 ∷ codes "abcdefgh" ++ (0 ∷ 255 ∷ 255 ∷ 255 ∷ 2 ∷ 0 ∷ 255 ∷ 223 ∷ 21 ∷ replicate 10 0 ++ (codes "ijklmnopqrst" ++ (0 ∷ codes "mysql_native_password" ++ 0 ∷ []))))
+greeting = 10 ∷ codes "8.0.35" ++ (0 ∷ 8 ∷ 0 ∷ 0 ∷ 0 ∷ codes "abcdefgh" ++ (0 ∷ 255 ∷ 255 ∷ 255 ∷ 2 ∷ 0 ∷ 255 ∷ 222 ∷ 21 ∷ replicate 10 0 ++ (codes "ijklmnopqrst" ++ (0 ∷ codes "mysql_native_password" ++ 0 ∷ []))))
+
+-- the same that offers to end result sets by an OK
+abbrev pub offering_ok : List ℕ
+offering_ok = 10 ∷ codes "8.0.35" ++ (0 ∷ 8 ∷ 0 ∷ 0 ∷ 0 ∷ codes "abcdefgh" ++ (0 ∷ 255 ∷ 255 ∷ 255 ∷ 2 ∷ 0 ∷ 255 ∷ 223 ∷ 21 ∷ replicate 10 0 ++ (codes "ijklmnopqrst" ++ (0 ∷ codes "mysql_native_password" ++ 0 ∷ []))))
+
+-- a greeting says how the server's result sets end, and whether it is newer
+pub record AGreetingIsOfItsServer : Type 0 where
+  pub allowed : IsGreeting server greeting
+  pub by_ok : IsGreeting (record server { ends = Ok }) offering_ok
+  pub other_ending : IsGreeting server offering_ok → ⊥
+  pub other_version : IsGreeting (record server { newer = true }) greeting → ⊥
 
 -- a link on which it waits
 abbrev pub greeted_link : State → ServedLink
-greeted_link state = record { waiting = 74 ∷ 0 ∷ 0 ∷ 0 ∷ greeting; state = state; failed = false }
+greeted_link state = record { waiting = 74 ∷ 0 ∷ 0 ∷ 0 ∷ greeting; state = state; failed = false; keeps_wide = true }
 
 -- a new link is greeted, and holds no lock
 pub record ANewLinkIsGreeted : Type 0 where
   pub allowed : IsNewLink (site true) true (greeted_link (fresh_state (terms_of (site true) true) history))
   pub locked : IsNewLink (site true) true (greeted_link (record (fresh_state (terms_of (site true) true) history) { frozen = true })) → ⊥
   pub silent : IsNewLink (site true) true (record (greeted_link (fresh_state (terms_of (site true) true) history)) { waiting = [] }) → ⊥
+  pub wide_untold : IsNewLink (site true) true (record (greeted_link (fresh_state (terms_of (site true) true) history)) { keeps_wide = false }) → ⊥
 
 -- connecting to a quiet site leaves its history, and where others write it may have grown
 pub record ConnectingLeavesTheHistory : Type 0 where
@@ -49,11 +63,15 @@ pub record ConnectingLeavesTheHistory : Type 0 where
   pub more : Connects (site false) (record (site false) { history = history ++ puts_three ∷ [] })
   pub refused : Connects (site true) (record (site true) { history = history ++ puts_three ∷ [] }) → ⊥
 
+-- a link of this state that comes back
+abbrev pub back : State → ServedLink
+back state = record { waiting = []; state = state; failed = false; keeps_wide = true }
+
 -- once the only link is back that has put a row, the history is the old one and that transaction; while another is out, it stands
 pub record TheHistoryIsToldOnceAllAreBack : Type 0 where
-  pub allowed : TakesBack 0 (site true) (with_three worked) (record (site true) { history = history ++ puts_three ∷ [] })
-  pub nothing_else : (new : ServedSite) → TakesBack 0 (site true) (with_three worked) new → new.history ≡ history ++ puts_three ∷ []
-  pub waits : (new : ServedSite) → TakesBack 1 (site true) (with_three worked) new → new.history ≡ history
+  pub allowed : TakesBack 0 (site true) (back (with_three worked)) (record (site true) { history = history ++ puts_three ∷ [] })
+  pub nothing_else : (new : ServedSite) → TakesBack 0 (site true) (back (with_three worked)) new → new.history ≡ history ++ puts_three ∷ []
+  pub waits : (new : ServedSite) → TakesBack 1 (site true) (back (with_three worked)) new → new.history ≡ history
 
 -- a grant of the read lock, after which nothing was put, the row (3,'c') was, or another
 abbrev pub granted : List Transaction → State
@@ -123,7 +141,7 @@ pub record TwoLinksSideBySide : Type 0 where
   pub a_unlocks : Serves plainly a_holds (SomeCommand UnlockTables) done (record a_holds { frozen = false })
   pub b_puts : Serves plainly b_sees (insert (codes "(5,NULL)")) done b_last
   pub a_puts_again : Serves plainly (record a_holds { frozen = false }) (insert (codes "(4,NULL)")) done a_last
-  pub a_is_back : TakesBack 1 (site true) a_last (record (site true) { returned = (puts_three ∷ puts_four ∷ []) ∷ []; grants = (history ++ puts_three ∷ []) ∷ [] })
-  pub b_is_back : TakesBack 0 (record (site true) { returned = (puts_three ∷ puts_four ∷ []) ∷ []; grants = (history ++ puts_three ∷ []) ∷ [] }) b_last (settled (puts_three ∷ puts_five ∷ puts_four ∷ []))
+  pub a_is_back : TakesBack 1 (site true) (back a_last) (record (site true) { returned = (puts_three ∷ puts_four ∷ []) ∷ []; grants = (history ++ puts_three ∷ []) ∷ [] })
+  pub b_is_back : TakesBack 0 (record (site true) { returned = (puts_three ∷ puts_four ∷ []) ∷ []; grants = (history ++ puts_three ∷ []) ∷ [] }) (back b_last) (settled (puts_three ∷ puts_five ∷ puts_four ∷ []))
   pub is_settled : IsSettled 0 (settled (puts_three ∷ puts_five ∷ puts_four ∷ []))
   pub grant_is_lost : IsSettled 0 (settled (puts_five ∷ puts_three ∷ puts_four ∷ [])) → ⊥

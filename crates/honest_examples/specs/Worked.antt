@@ -1,5 +1,6 @@
 -- The schema, the table, its rows and the history that the examples speak of.
-use Rattle.std.specs.Prelude.{ℕ, false, List, [], ◌∷◌, ◌++◌, Some, None, codes, map}
+use Rattle.std.specs.Prelude.{ℕ, true, false, List, [], ◌∷◌, ◌++◌, Some, None, codes, map, bytes_eq}
+use Rattle.wire_forms.specs.declared.ends.Ends.TheVariants.{Eof}
 use Rattle.object_forms.specs.declared.kind.Kind.TheVariants.{Schema, Table}
 use Rattle.object_forms.specs.declared.shape.Column.{Column}
 use Rattle.server_data.specs.declared.data.Change.{Change}
@@ -11,6 +12,15 @@ use Rattle.server_data.specs.declared.data.TableRows.{TableRows}
 use Rattle.server_data.specs.declared.data.Transaction.{Transaction}
 use Rattle.sql_cells.specs.declared.cell.Cell.{Cell}
 use Rattle.sql_cells.specs.declared.cell.Cell.TheVariants.{Null, Value}
+use Rattle.honest_server.specs.State.{Server}
+
+-- the only JSON text that the worked server prints
+abbrev pub printed : List ℕ
+printed = codes "[1, 2]"
+
+-- a willing server of a quiet site, of a version before 8.2, whose result sets end by EOF packets
+abbrev pub server : Server
+server = record { quiet = true; willing = true; plugin = []; newer = false; ends = Eof; old_status = false; prints = bytes_eq printed }
 
 -- the names of the schema and of its table
 abbrev pub schema : List ℕ

@@ -1,4 +1,4 @@
-// Answers to queries over the worked database. Nothing here runs: the contracts are the examples.
+//! Answers to queries over the worked database. Nothing here runs: the contracts are the examples.
 ghost use Rattle.honest_examples.specs.Answered.{ATableIsToldWithItsEngine, ATextIsShown, AllRowsCome, ColumnsAreAskedForInOrder, ColumnsAreToldWithTheirTypes, EachSchemaIsTold, KeysAreSkipped, NoPositionIsShown, NoTriggersAreTold, RowsInsideTheBoundsCome, RowsComeInTheOrderOfTheKey, TheKeyIsTold, TheLastPositionIsShown, TheSignOfPlainIntegersIsTold};
 
 /// Rows that are asked for by key come in its order, and in no other.

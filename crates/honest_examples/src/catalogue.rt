@@ -1,4 +1,4 @@
-// Changes of rows, of counters and of the catalogue. Nothing here runs: the contracts are the examples.
+//! Changes of rows, of counters and of the catalogue. Nothing here runs: the contracts are the examples.
 ghost use Rattle.honest_examples.specs.Catalogue.{ACounterRises, ANumberAtTheCounterRaisesIt, ANumberIsUnderItsCounter, RowsAndCountersKeepTheCatalogue};
 
 /// A database is well-formed with a number under its table's counter, and not with one at it.

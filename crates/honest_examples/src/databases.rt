@@ -1,4 +1,4 @@
-// Well-formed databases and sound histories. Nothing here runs: the contracts are the examples.
+//! Well-formed databases and sound histories. Nothing here runs: the contracts are the examples.
 ghost use Rattle.honest_examples.specs.Databases.{AKeyIsAnInteger, APositionHasAFile, NoTwoRowsHaveOneKey, TheHistoryMakesTheDatabase};
 
 /// The worked history ends in the worked database.

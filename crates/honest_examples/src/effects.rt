@@ -1,5 +1,5 @@
-// What statements do on a link. Nothing here runs: the contracts are the examples.
-ghost use Rattle.honest_examples.specs.Effects.{ACommitWaitsForTheReadLock, ARollbackDropsTheTransaction, ASchemaIsUsedWhereItIsThere, ASelectShowsTheSnapshot, ASnapshotShowsWhatWasSeen, ATableIsMadeInTheCurrentSchema, AnErrBreaksOffAnAnswer, AnInsertIsCommittedAtOnce, TheBackupLockStopsACreate};
+//! What statements do on a link. Nothing here runs: the contracts are the examples.
+ghost use Rattle.honest_examples.specs.Effects.{ACommitWaitsForTheReadLock, ARollbackDropsTheTransaction, ASchemaIsUsedWhereItIsThere, ASelectShowsTheSnapshot, ASnapshotShowsWhatWasSeen, ATableIsMadeInTheCurrentSchema, AnEmptyTransactionEndsUnderTheReadLock, AnErrBreaksOffAnAnswer, AnInsertIsCommittedAtOnce, TheBackupLockStopsACreate};
 
 /// A row of a new key is committed at once, as a transaction of its own. One of a key that is there is
 /// answered by ERR, and by nothing else.
@@ -7,10 +7,16 @@ pub fn an_insert_is_committed_at_once()
     ensures { AnInsertIsCommittedAtOnce }
 {}
 
-/// A COMMIT while the link holds the read lock is answered by ERR where a transaction is open, and by OK
-/// where none is.
+/// A COMMIT while the link holds the read lock is answered by ERR where a transaction with changes is open,
+/// and by OK where none is.
 pub fn a_commit_waits_for_the_read_lock()
     ensures { ACommitWaitsForTheReadLock }
+{}
+
+/// A transaction without changes is ended by COMMIT and by START TRANSACTION while the link holds the read
+/// lock, and the history stays. Without the lock it may be committed as a transaction without changes.
+pub fn an_empty_transaction_ends_under_the_read_lock()
+    ensures { AnEmptyTransactionEndsUnderTheReadLock }
 {}
 
 /// A table is made in the current schema. Without one, or where it is there, its text is answered by ERR.

@@ -1,5 +1,5 @@
-// What messages are answered by, and what bytes spell. Nothing here runs: the contracts are the examples.
-ghost use Rattle.honest_examples.specs.Exchanges.{ACommandIsAnsweredByOneMessage, ACommitIsAnsweredByAnOk, ALoginIsTaken, AQueryIsAnsweredByItsRows, AQuitIsntAnswered, AnUnknownCommandIsAnsweredByAnErr};
+//! What messages are answered by, and what bytes spell. Nothing here runs: the contracts are the examples.
+ghost use Rattle.honest_examples.specs.Exchanges.{ACommandIsAnsweredByOneMessage, ACommitIsAnsweredByAnOk, ALoginIsTaken, AnOkEndsAResultSet, AQueryIsAnsweredByItsRows, AQuitIsntAnswered, AnUnknownCommandIsAnsweredByAnErr};
 
 /// An OK or an ERR spells the reply to a command, and no result set does.
 pub fn a_command_is_answered_by_one_message()
@@ -10,6 +10,12 @@ pub fn a_command_is_answered_by_one_message()
 /// place of the end breaks them off.
 pub fn a_query_is_answered_by_its_rows()
     ensures { AQueryIsAnsweredByItsRows }
+{}
+
+/// On a server whose result sets end by an OK, such an OK ends them and no EOF stands in them. On one whose
+/// result sets end by EOF packets it doesn't end them.
+pub fn an_ok_ends_a_result_set()
+    ensures { AnOkEndsAResultSet }
 {}
 
 /// COM_QUERY `COMMIT`, sent with the sequence id 0 where no transaction is open, is answered by an OK with

@@ -1,4 +1,4 @@
-// Logins in which another plugin is asked for, and one that is turned away. Nothing here runs: the contracts are the examples.
+//! Logins in which another plugin is asked for, and one that is turned away. Nothing here runs: the contracts are the examples.
 ghost use Rattle.honest_examples.specs.Logins.{ALoginIsTurnedAway, AnotherPluginIsAskedForOnce};
 
 /// The plugin of the accounts may be asked for, and the response to that taken. No other is asked for, and none

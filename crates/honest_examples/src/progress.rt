@@ -1,4 +1,4 @@
-// The progress of a load. Nothing here runs: the contracts are the examples.
+//! The progress of a load. Nothing here runs: the contracts are the examples.
 ghost use Rattle.honest_examples.specs.Progress.{TheProgressIsKept};
 
 /// The progress schema and the table of files are made, and a file is put and told. Where the table isn't

@@ -1,4 +1,4 @@
-// A procedure, a view, and their settings. Nothing here runs: the contracts are the examples.
+//! A procedure, a view, and their settings. Nothing here runs: the contracts are the examples.
 ghost use Rattle.honest_examples.specs.Routines.{ARoutineIsShownWithItsSettings, RoutinesAreListed, SettingsAreOfTheNextObject};
 
 /// The settings that are made in a session are those of the objects that are made next, but for a view's

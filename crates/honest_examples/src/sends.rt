@@ -1,6 +1,6 @@
-// Which bytes are a whole message, and what becomes of a message that is sent. Nothing here runs: the
-// contracts are the examples.
-ghost use Rattle.honest_examples.specs.Sends.{ACommitMakesNothing, AMessageIsSent, AMessageIsWhole, ASnapshotShowsWhatTheHolderHasSeen, ATransactionIsCommittedAlone, NothingIsCommittedBesideAHolder};
+//! Which bytes are a whole message, and what becomes of a message that is sent. Nothing here runs: the
+//! contracts are the examples.
+ghost use Rattle.honest_examples.specs.Sends.{ACommitMakesNothing, AFailedLinkSendsNothing, AMessageIsSent, AMessageIsWhole, ASnapshotShowsWhatTheHolderHasSeen, ATransactionIsCommittedAlone, NothingIsCommittedBesideAHolder};
 
 /// Of a START TRANSACTION only the commit of the open transaction may be done, but not while the link holds the
 /// read lock. A ROLLBACK commits nothing.
@@ -11,6 +11,11 @@ pub fn a_transaction_is_committed_alone()
 /// A COMMIT that is sent is handled, and its answer waits. Where sending fails it was handled or it wasn't.
 pub fn a_message_is_sent()
     ensures { AMessageIsSent }
+{}
+
+/// On a link that has failed no message is sent, and nothing changes.
+pub fn a_failed_link_sends_nothing()
+    ensures { AFailedLinkSendsNothing }
 {}
 
 /// COMMIT is no object's text, and CREATE TABLE is.

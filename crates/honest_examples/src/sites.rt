@@ -1,10 +1,16 @@
-// What a site tells of its links. Nothing here runs: the contracts are the examples.
-ghost use Rattle.honest_examples.specs.Sites.{AGrantComesFirst, ANewLinkHasSeenTheHistory, ANewLinkIsGreeted, ConnectingLeavesTheHistory, GrantsArePrefixesOfOneList, LinksPutDifferentKeys, TheHistoryIsToldOnceAllAreBack, TwoLinksSideBySide};
+//! What a site tells of its links. Nothing here runs: the contracts are the examples.
+ghost use Rattle.honest_examples.specs.Sites.{AGrantComesFirst, AGreetingIsOfItsServer, ANewLinkHasSeenTheHistory, ANewLinkIsGreeted, ConnectingLeavesTheHistory, GrantsArePrefixesOfOneList, LinksPutDifferentKeys, TheHistoryIsToldOnceAllAreBack, TwoLinksSideBySide};
 
 /// A new link to a quiet site of a willing server has seen its history. Where others write, it may have
 /// seen more.
 pub fn a_new_link_has_seen_the_history()
     ensures { ANewLinkHasSeenTheHistory }
+{}
+
+/// A greeting that says another ending of result sets than the server's, or another version, is no greeting
+/// of it.
+pub fn a_greeting_is_of_its_server()
+    ensures { AGreetingIsOfItsServer }
 {}
 
 /// On a new link a greeting waits, and it holds no lock.

@@ -1,4 +1,4 @@
-// A trigger on a table. Nothing here runs: the contracts are the examples.
+//! A trigger on a table. Nothing here runs: the contracts are the examples.
 ghost use Rattle.honest_examples.specs.Triggers.{ATriggerIsMadeOnItsTable, ATriggerIsTold, ATriggerMayPutMore};
 
 /// A trigger is made on a table that is there, and its text is answered by ERR where that isn't.

@@ -1,4 +1,4 @@
-// A view, and what is told of it. Nothing here runs: the contracts are the examples.
+//! A view, and what is told of it. Nothing here runs: the contracts are the examples.
 ghost use Rattle.honest_examples.specs.Views.{AViewIsShownWithItsSettings, WhatAViewNeedsIsTold};
 
 /// A view's text is shown with its settings, and no server withholds it.

@@ -7,12 +7,17 @@ use Rattle.server_data.specs.declared.data.Transaction.{Transaction}
 use Rattle.sql_cells.specs.declared.cell.Cell.{Cell}
 use Rattle.sql_cells.specs.declared.cell.Cell.TheVariants.{Null, Value}
 use Rattle.honest_server.specs.Laws.{APlainSnapshotMayShowMore, ThePositionMayMoveAfterTheLock}
-use Rattle.honest_server.specs.State.{State, in_session, no_settings, with_others}
+use Rattle.honest_server.specs.State.{Server, State, in_session, no_settings, with_others}
+use Rattle.wire_forms.specs.declared.ends.Ends.TheVariants.{Eof}
+
+-- a server to which others write
+abbrev anyone : Server
+anyone = record { quiet = false; willing = false; plugin = []; newer = false; ends = Eof; old_status = false; prints = λ bytes. false }
 
 -- a link that has seen nothing and holds the read lock or doesn't
 abbrev link : Bool → State
 link frozen = record {
-  terms = record { base = []; quiet = false; sole = false; willing = false; plugin = [] };
+  terms = record { server = anyone; base = []; sole = false };
   phase = in_session;
   seen = [];
   guarded = false;
@@ -52,7 +57,7 @@ snapshot = (
   record {
     more = one ∷ [];
     sees = record {
-      follows = record { frozen = λ p. absurd (false≢true p); guarded = λ p. absurd (false≢true p); shared = λ p q. absurd (false≢true p) };
+      follows = record { frozen = λ p. absurd (false≢true p); guarded = λ p. absurd (false≢true p); catalogue = λ p q. absurd (false≢true p) };
       sole = λ p q. absurd (false≢true p);
       willing = λ p q. absurd (false≢true p);
     };
@@ -75,7 +80,7 @@ position = (
   record {
     more = [];
     sees = record {
-      follows = record { frozen = λ p. refl; guarded = λ p. absurd (false≢true p); shared = λ p q. absurd (false≢true p) };
+      follows = record { frozen = λ p. refl; guarded = λ p. absurd (false≢true p); catalogue = λ p q. absurd (false≢true p) };
       sole = λ p q. refl;
       willing = λ p q. refl;
     };
@@ -85,11 +90,11 @@ position = (
   record {
     more = one ∷ [];
     sees = record {
-      follows = record { frozen = λ p. absurd (false≢true p); guarded = λ p. absurd (false≢true p); shared = λ p q. absurd (false≢true p) };
+      follows = record { frozen = λ p. absurd (false≢true p); guarded = λ p. absurd (false≢true p); catalogue = λ p q. absurd (false≢true p) };
       sole = λ p q. absurd (false≢true p);
       willing = λ p q. absurd (false≢true p);
     };
-    handles = (record { third = Null; fourth = Null; gtid = []; more = []; rows_are = refl; gtid_is = refl }, refl);
+    handles = (record { is_there = refl; shows = record { third = Null; fourth = Null; gtid = []; more = []; rows_are = refl; gtid_is = refl } }, refl);
     ends = tt;
   },
   no_length,

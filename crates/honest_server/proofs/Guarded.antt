@@ -1,11 +1,11 @@
 -- What a link sees while it holds the backup lock.
-use Rattle.std.proofs.Common.{◌≡◌, ℕ, true, List, [], ◌∷◌, ◌++◌, Option, Some, None, refl, ap, sym, ◌∙◌, append_assoc, subst}
+use Rattle.std.proofs.Common.{◌≡◌, ℕ, true, List, [], ◌∷◌, ◌++◌, Option, Some, None, refl, ap, sym, ◌∙◌, append_assoc, subst, inl, inr}
 use Rattle.std.specs.Prelude.{option_and_then}
 use Rattle.server_data.specs.Fold.{change_db, changes_db, db, more_db}
 use Rattle.server_data.specs.declared.data.Change.{Change}
 use Rattle.server_data.specs.declared.data.Database.{Database}
 use Rattle.server_data.specs.declared.data.Transaction.{Transaction}
-use Rattle.statement_forms.specs.declared.command.Command.TheVariants.{SetUp, NamesUtf8mb4, NamesBinary, ForeignKeyChecksOff, TimeZoneUtc, BinaryLogOff, SqlMode, CharacterSetClient, CollationConnection, RepeatableRead, LockInstance, FlushTables, UnlockTables, UnlockInstance, StartSnapshot, Start, Commit, Rollback, Use, Create, CreateProgress, CreateProgressFiles, CreateProgressDump, Insert, InsertProgressFile, InsertProgressDump}
+use Rattle.statement_forms.specs.declared.command.Command.TheVariants.{SetUp, NamesUtf8mb4, NamesBinary, ForeignKeyChecksOff, TimeZoneUtc, BinaryLogOff, SqlMode, CharacterSetClient, CollationConnection, RepeatableRead, TimeZone, LockInstance, FlushTables, UnlockTables, UnlockInstance, StartSnapshot, Start, Commit, Rollback, Use, Create, CreateProgress, CreateProgressFiles, CreateProgressDump, Insert, InsertProgressFile, InsertProgressDump}
 use Rattle.statement_forms.specs.declared.command.Command.{Command}
 use Rattle.statement_forms.specs.declared.statement.Statement.TheVariants.{Command as SomeCommand, Query as SomeQuery}
 use Rattle.honest_server.specs.Catalogue.{AreOfRows, KeepCatalogue, KeepsCatalogue, no_more, a_row, a_rise, one_more}
@@ -81,9 +81,15 @@ commits_on state now new changes so commits = record {
   guarded = ap (λ (s : State). s.guarded) commits.new_is ∙ so.guarded;
 }
 
+-- the open transaction alone has ended
+same_more : {state now new : State} → Extends state now → new ≡ record now { pending = None } → Extends state new
+same_more so same = record { more = so.more; seen = ap (λ (s : State). s.seen) same ∙ so.seen; keeps = so.keeps; guarded = ap (λ (s : State). s.guarded) same ∙ so.guarded }
+
 ends_on : (state now new : State) (pending : Option (List Change)) → Extends state now → EndsOpen now pending new → Extends state new
 ends_on state now new None so ended = subst (λ (s : State). Extends state s) (sym ended) so
-ends_on state now new (Some changes) so ended = commits_on state now new changes so ended
+ends_on state now new (Some []) so (inl same) = same_more so same
+ends_on state now new (Some []) so (inr ended) = commits_on state now new [] so ended
+ends_on state now new (Some (change ∷ changes)) so ended = commits_on state now new (change ∷ changes) so ended
 
 -- a link has come to see more, whatever locks it holds
 record Seen (state now : State) : Type 0 where
@@ -117,6 +123,7 @@ handled state now new (SqlMode value) so effect = same_seen so (ap (λ (s : Stat
 handled state now new (CharacterSetClient value) so effect = same_seen so (ap (λ (s : State). s.seen) effect)
 handled state now new (CollationConnection value) so effect = same_seen so (ap (λ (s : State). s.seen) effect)
 handled state now new RepeatableRead so effect = same_seen so (ap (λ (s : State). s.seen) effect)
+handled state now new (TimeZone value) so effect = same_seen so (ap (λ (s : State). s.seen) effect)
 handled state now new LockInstance so effect = same_seen so (ap (λ (s : State). s.seen) effect)
 handled state now new FlushTables so effect = same_seen so (ap (λ (s : State). s.seen) effect)
 handled state now new UnlockTables so effect = same_seen so (ap (λ (s : State). s.seen) effect)

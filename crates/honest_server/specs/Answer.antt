@@ -1,9 +1,9 @@
 -- What a query is answered over a database (MySQL 8.0 Reference Manual, 28.3 "INFORMATION_SCHEMA General Tables", 15.7.7 "SHOW Statements", 15.2.13 "SELECT Statement").
-use Rattle.std.specs.Prelude.{ℕ, ◌≡◌, ◌⊎◌, ◌==◌, ◌&&◌, ◌||◌, not, Bool, true, false, List, [], ◌∷◌, map, filter, filter_map, flat_map, find, position, take, drop, slice_get, Option, Some, None, option_map, bytes_eq, nat_eq, codes, decimal, ℤ, int_lt, int_le}
+use Rattle.std.specs.Prelude.{ℕ, ◌≡◌, is_some, option_and_then, ◌⊎◌, ◌==◌, ◌&&◌, ◌||◌, not, Bool, true, false, List, [], ◌∷◌, map, filter, filter_map, flat_map, find, position, take, drop, slice_get, Option, Some, None, option_map, bytes_eq, nat_eq, codes, decimal, ℤ, int_lt, int_le}
 use Rattle.std.specs.List.{starts_with, list_any, list_all}
 use Rattle.object_forms.specs.Shape.{shape, is_integer, is_key}
 use Rattle.object_forms.specs.declared.kind.Kind.{Kind}
-use Rattle.object_forms.specs.declared.kind.Kind.TheVariants.{Schema, Table, Procedure, Function, View, Trigger}
+use Rattle.object_forms.specs.declared.kind.Kind.TheVariants.{Schema, Table, Procedure, Function, View, Trigger, Event}
 use Rattle.object_forms.specs.declared.shape.Column.{Column}
 use Rattle.server_data.specs.Bag.{IsSameBag}
 use Rattle.server_data.specs.Fold.{is_object, table_of, rows_of}
@@ -11,11 +11,13 @@ use Rattle.server_data.specs.declared.data.Database.{Database}
 use Rattle.server_data.specs.declared.data.Object.{Object}
 use Rattle.server_data.specs.declared.data.Position.{Position}
 use Rattle.server_data.specs.declared.data.Settings.{Settings}
+use Rattle.sql_cells.specs.Cell.{bytes_of}
 use Rattle.sql_cells.specs.declared.cell.Cell.{Cell}
 use Rattle.sql_cells.specs.declared.cell.Cell.TheVariants.{Null, Value}
 use Rattle.statement_forms.specs.declared.query.Query.{Query}
-use Rattle.statement_forms.specs.declared.query.Query.TheVariants.{MasterStatus, Schemas, Tables, Columns as ColumnsQuery, PrimaryKey, Triggers, Routines, ViewNeeds, CreateDatabase, CreateTable, CreateView, CreateProcedure, CreateFunction, CreateTrigger, Key, KeyAbove, Rows, RowsByKey, RowsAbove, RowsUpTo, RowsBetween, ProgressDump, ProgressFiles}
+use Rattle.statement_forms.specs.declared.query.Query.TheVariants.{MasterStatus, BinaryLogStatus, Schemas, Tables, Columns as ColumnsQuery, PrimaryKey, Triggers, Routines, ViewNeeds, Events, CreateDatabase, CreateTable, CreateView, CreateProcedure, CreateFunction, CreateTrigger, CreateEvent, Key, KeyAbove, Rows, RowsByKey, RowsAbove, RowsUpTo, RowsBetween, WideKey, WideKeyAbove, RowsByWideKey, RowsAboveWide, RowsUpToWide, RowsBetweenWide, ProgressDump, ProgressFiles}
 use Rattle.honest_server.specs.Columns.{cell_at, integer_at, plain_names}
+use Rattle.honest_server.specs.WideKey.{ShowsWideKey, ShowsWideRows, no_bounds}
 
 -- the object of this kind, schema and name
 abbrev pub object_at : Database → Kind → List ℕ → List ℕ → Option Object
@@ -31,29 +33,62 @@ cell_of (Some bytes) = Value bytes
 -- SCHEMATA: the name of each schema
 abbrev pub schema_row : Object → Kind → Option (List Cell)
 schema_row object Schema = Some (Value object.name ∷ [])
-schema_row object kind = None
+schema_row object Table = None
+schema_row object Procedure = None
+schema_row object Function = None
+schema_row object View = None
+schema_row object Trigger = None
+schema_row object Event = None
 
 -- TABLES: the name and the engine of each table, and the name of each view, whose engine is NULL
 abbrev pub table_row : Object → Kind → Option (List Cell)
+table_row object Schema = None
 table_row object Table = Some (Value object.name ∷ Value (codes "BASE TABLE") ∷ cell_of (option_map (λ found. found.engine) (shape object.text)) ∷ [])
+table_row object Procedure = None
+table_row object Function = None
 table_row object View = Some (Value object.name ∷ Value (codes "VIEW") ∷ Null ∷ [])
-table_row object kind = None
+table_row object Trigger = None
+table_row object Event = None
 
 -- TRIGGERS: the name of each trigger, its table's, and its rank
 abbrev pub trigger_row : Object → Kind → Option (List Cell)
+trigger_row object Schema = None
+trigger_row object Table = None
+trigger_row object Procedure = None
+trigger_row object Function = None
+trigger_row object View = None
 trigger_row object Trigger = Some (Value object.name ∷ Value (table_of object.needs).name ∷ Value (decimal object.rank) ∷ [])
-trigger_row object kind = None
+trigger_row object Event = None
 
 -- ROUTINES: the name of each procedure and function, and which of the two it is
 abbrev pub routine_row : Object → Kind → Option (List Cell)
+routine_row object Schema = None
+routine_row object Table = None
 routine_row object Procedure = Some (Value object.name ∷ Value (codes "PROCEDURE") ∷ [])
 routine_row object Function = Some (Value object.name ∷ Value (codes "FUNCTION") ∷ [])
-routine_row object kind = None
+routine_row object View = None
+routine_row object Trigger = None
+routine_row object Event = None
 
 -- VIEW_TABLE_USAGE: the name of each view beside the schema and the name of each thing that it needs
 abbrev pub need_rows : Object → Kind → List (List Cell)
+need_rows object Schema = []
+need_rows object Table = []
+need_rows object Procedure = []
+need_rows object Function = []
 need_rows object View = map (λ need. Value object.name ∷ Value need.schema ∷ Value need.name ∷ []) object.needs
-need_rows object kind = []
+need_rows object Trigger = []
+need_rows object Event = []
+
+-- EVENTS: the name of each event
+abbrev pub event_row : Object → Kind → Option (List Cell)
+event_row object Schema = None
+event_row object Table = None
+event_row object Procedure = None
+event_row object Function = None
+event_row object View = None
+event_row object Trigger = None
+event_row object Event = Some (Value object.name ∷ [])
 
 -- the rows of the objects of a schema
 abbrev pub rows_in_schema : (Object → Kind → Option (List Cell)) → Database → List ℕ → List (List Cell)
@@ -94,7 +129,12 @@ abbrev pub is_column_name : List Column → List Cell → Bool
 is_column_name columns (Value name ∷ []) = list_any (λ column. bytes_eq column.name name) columns
 is_column_name columns row = false
 
--- a table's answer, where the table isn't there: none
+-- each row names a column, and together they tell the table's key
+pub record TellsKey (object : Object) (rows : List (List Cell)) : Type 0 where
+  pub names : list_all (is_column_name object.columns) rows ≡ true
+  pub key : key_told object.columns rows ≡ object.key
+
+-- what is said of an object that was looked for, and otherwise where it isn't there
 abbrev pub WhereThere : Option Object → (Object → Type 0) → Type 0 → Type 0
 WhereThere None P otherwise = otherwise
 WhereThere (Some object) P otherwise = P object
@@ -119,6 +159,16 @@ pub record ShowsRoutine (object : Object) (rows : List (List Cell)) : Type 0 whe
   pub more : List Cell
   pub text_is : (text ≡ Value object.text) ⊎ (text ≡ Null)
   pub rows_are : rows ≡ (first ∷ Value settings.sql_mode ∷ text ∷ Value settings.client ∷ Value settings.collation ∷ more) ∷ []
+
+-- the text of an event, in whose place NULL may stand, after its mode and its time zone
+pub record ShowsEvent (object : Object) (rows : List (List Cell)) : Type 0 where
+  pub settings : Settings
+  pub settings_are : object.settings ≡ Some settings
+  pub first : Cell
+  pub text : Cell
+  pub more : List Cell
+  pub text_is : (text ≡ Value object.text) ⊎ (text ≡ Null)
+  pub rows_are : rows ≡ (first ∷ Value settings.sql_mode ∷ Value settings.zone ∷ text ∷ Value settings.client ∷ Value settings.collation ∷ more) ∷ []
 
 -- a bound that a key is above, and one that it is at most
 pub record Bounds : Type 0 where
@@ -157,11 +207,17 @@ pub record AreInOrder (database : Database) (object : Object) (index : ℕ) (bou
   pub same : IsSameBag rows (filter (λ row. is_inside bounds (integer_at object.columns index row)) (rows_of database object.schema object.name))
   pub rise : keys_rise (map (integer_at object.columns index) rows) ≡ true
 
+-- what a query for rows in the order of a key asks for
+pub record RowsAsked : Type 0 where
+  pub columns : List (List ℕ)
+  pub key : List ℕ
+  pub bounds : Bounds
+
 -- all plain columns were asked for, and the rows inside the bounds came
-pub record ShowsRows (database : Database) (object : Object) (columns : List (List ℕ)) (key : List ℕ) (bounds : Bounds) (rows : List (List Cell)) : Type 0 where
-  pub all_columns : columns ≡ plain_names object.columns
-  pub has_key : HasKey object key
-  pub in_order : AreInOrder database object has_key.index bounds rows
+pub record ShowsRows (database : Database) (object : Object) (asked : RowsAsked) (rows : List (List Cell)) : Type 0 where
+  pub all_columns : asked.columns ≡ plain_names object.columns
+  pub has_key : HasKey object asked.key
+  pub in_order : AreInOrder database object has_key.index asked.bounds rows
 
 -- all plain columns were asked for, and all rows came, in any order
 pub record ShowsAll (database : Database) (object : Object) (columns : List (List ℕ)) (rows : List (List Cell)) : Type 0 where
@@ -172,12 +228,18 @@ pub record ShowsAll (database : Database) (object : Object) (columns : List (Lis
 abbrev pub only_cell : List Column → ℕ → List Cell → Option (List Cell)
 only_cell columns index row = option_map (λ cell. cell ∷ []) (cell_at columns index row)
 
+-- what a query for one key asks for: the key above a bound, after so many others
+pub record KeyAsked : Type 0 where
+  pub key : List ℕ
+  pub above : Option ℤ
+  pub skipped : ℕ
+
 -- the key after so many others that are above the bound, or none
-pub record ShowsKey (database : Database) (object : Object) (key : List ℕ) (above : Option ℤ) (skipped : ℕ) (rows : List (List Cell)) : Type 0 where
-  pub has_key : HasKey object key
+pub record ShowsKey (database : Database) (object : Object) (asked : KeyAsked) (rows : List (List Cell)) : Type 0 where
+  pub has_key : HasKey object asked.key
   pub whole : List (List Cell)
-  pub in_order : AreInOrder database object has_key.index (record { above = above; up_to = None }) whole
-  pub rows_are : rows ≡ filter_map (only_cell object.columns has_key.index) (take 1 (drop skipped whole))
+  pub in_order : AreInOrder database object has_key.index (record { above = asked.above; up_to = None }) whole
+  pub rows_are : rows ≡ filter_map (only_cell object.columns has_key.index) (take 1 (drop asked.skipped whole))
 
 abbrev pub everything : Bounds
 everything = record { above = None; up_to = None }
@@ -185,37 +247,66 @@ everything = record { above = None; up_to = None }
 abbrev pub progress_schema : List ℕ
 progress_schema = codes "myloader_progress"
 
--- the rows that answer a query over a database: one that isn't answered here has no answer
+-- a table of the database shows these rows
+abbrev pub TableShows : Database → List ℕ → List ℕ → (Object → Type 0) → Type 0
+TableShows database schema table P = WhereThere (object_at database Table schema table) P ⊥
+
+-- an object of another kind shows its text
+abbrev pub ObjectShows : Option Object → (Object → Type 0) → Type 0
+ObjectShows found P = WhereThere found P ⊥
+
+-- the rows that answer a query over a database; the position of the binary log isn't in it
 abbrev pub Answers : Database → Query → List (List Cell) → Type 0
 Answers database MasterStatus rows = ⊥
+Answers database BinaryLogStatus rows = ⊥
 Answers database Schemas rows = IsSameBag rows (filter_map (λ object. schema_row object object.kind) database.objects)
 Answers database (Tables schema) rows = IsSameBag rows (rows_in_schema table_row database schema)
 Answers database (ColumnsQuery schema table) rows = WhereThere (object_at database Table schema table) (λ object. AreColumnRows object.columns rows) (rows ≡ [])
-Answers database (PrimaryKey schema table) rows = WhereThere (object_at database Table schema table) (λ object. (list_all (is_column_name object.columns) rows ≡ true) × (key_told object.columns rows ≡ object.key)) (rows ≡ [])
+Answers database (PrimaryKey schema table) rows = WhereThere (object_at database Table schema table) (λ object. TellsKey object rows) (rows ≡ [])
 Answers database (Triggers schema) rows = IsSameBag rows (rows_in_schema trigger_row database schema)
 Answers database (Routines schema) rows = IsSameBag rows (rows_in_schema routine_row database schema)
 Answers database (ViewNeeds schema) rows = IsSameBag rows (flat_map (λ object. need_rows object object.kind) (filter (is_in_schema schema) database.objects))
-Answers database (CreateDatabase schema) rows = WhereThere (object_at database Schema schema schema) (λ object. ShowsText object rows) ⊥
-Answers database (CreateTable schema name) rows = WhereThere (object_at database Table schema name) (λ object. ShowsText object rows) ⊥
-Answers database (CreateView schema name) rows = WhereThere (object_at database View schema name) (λ object. ShowsView object rows) ⊥
-Answers database (CreateProcedure schema name) rows = WhereThere (object_at database Procedure schema name) (λ object. ShowsRoutine object rows) ⊥
-Answers database (CreateFunction schema name) rows = WhereThere (object_at database Function schema name) (λ object. ShowsRoutine object rows) ⊥
-Answers database (CreateTrigger schema name) rows = WhereThere (object_at database Trigger schema name) (λ object. ShowsRoutine object rows) ⊥
-Answers database (Key key schema table skipped) rows = WhereThere (object_at database Table schema table) (λ object. ShowsKey database object key None skipped rows) ⊥
-Answers database (KeyAbove key schema table above skipped) rows = WhereThere (object_at database Table schema table) (λ object. ShowsKey database object key (Some above) skipped rows) ⊥
-Answers database (Rows columns schema table) rows = WhereThere (object_at database Table schema table) (λ object. ShowsAll database object columns rows) ⊥
-Answers database (RowsByKey columns schema table key) rows = WhereThere (object_at database Table schema table) (λ object. ShowsRows database object columns key everything rows) ⊥
-Answers database (RowsAbove columns schema table key above) rows = WhereThere (object_at database Table schema table) (λ object. ShowsRows database object columns key (record { above = Some above; up_to = None }) rows) ⊥
-Answers database (RowsUpTo columns schema table key up_to) rows = WhereThere (object_at database Table schema table) (λ object. ShowsRows database object columns key (record { above = None; up_to = Some up_to }) rows) ⊥
-Answers database (RowsBetween columns schema table key above up_to) rows = WhereThere (object_at database Table schema table) (λ object. ShowsRows database object columns key (record { above = Some above; up_to = Some up_to }) rows) ⊥
-Answers database ProgressDump rows = WhereThere (object_at database Table progress_schema (codes "dump")) (λ object. ShowsAll database object (codes "digest" ∷ []) rows) ⊥
-Answers database ProgressFiles rows = WhereThere (object_at database Table progress_schema (codes "files")) (λ object. ShowsAll database object (codes "name" ∷ []) rows) ⊥
+Answers database (Events schema) rows = IsSameBag rows (rows_in_schema event_row database schema)
+Answers database (CreateDatabase schema) rows = ObjectShows (object_at database Schema schema schema) (λ object. ShowsText object rows)
+Answers database (CreateTable schema name) rows = ObjectShows (object_at database Table schema name) (λ object. ShowsText object rows)
+Answers database (CreateView schema name) rows = ObjectShows (object_at database View schema name) (λ object. ShowsView object rows)
+Answers database (CreateProcedure schema name) rows = ObjectShows (object_at database Procedure schema name) (λ object. ShowsRoutine object rows)
+Answers database (CreateFunction schema name) rows = ObjectShows (object_at database Function schema name) (λ object. ShowsRoutine object rows)
+Answers database (CreateTrigger schema name) rows = ObjectShows (object_at database Trigger schema name) (λ object. ShowsRoutine object rows)
+Answers database (CreateEvent schema name) rows = ObjectShows (object_at database Event schema name) (λ object. ShowsEvent object rows)
+Answers database (Key key schema table skipped) rows =
+    TableShows database schema table (λ object. ShowsKey database object (record { key = key; above = None; skipped = skipped }) rows)
+Answers database (KeyAbove key schema table above skipped) rows =
+    TableShows database schema table (λ object. ShowsKey database object (record { key = key; above = Some above; skipped = skipped }) rows)
+Answers database (Rows columns schema table) rows = TableShows database schema table (λ object. ShowsAll database object columns rows)
+Answers database (RowsByKey columns schema table key) rows =
+    TableShows database schema table (λ object. ShowsRows database object (record { columns = columns; key = key; bounds = everything }) rows)
+Answers database (RowsAbove columns schema table key above) rows =
+    TableShows database schema table (λ object. ShowsRows database object (record { columns = columns; key = key; bounds = record { above = Some above; up_to = None } }) rows)
+Answers database (RowsUpTo columns schema table key up_to) rows =
+    TableShows database schema table (λ object. ShowsRows database object (record { columns = columns; key = key; bounds = record { above = None; up_to = Some up_to } }) rows)
+Answers database (RowsBetween columns schema table key above up_to) rows =
+    TableShows database schema table (λ object. ShowsRows database object (record { columns = columns; key = key; bounds = record { above = Some above; up_to = Some up_to } }) rows)
+Answers database (WideKey keys schema table skipped) rows =
+    TableShows database schema table (λ object. ShowsWideKey database object (record { keys = keys; above = None; skipped = skipped }) rows)
+Answers database (WideKeyAbove keys schema table above skipped) rows =
+    TableShows database schema table (λ object. ShowsWideKey database object (record { keys = keys; above = Some above; skipped = skipped }) rows)
+Answers database (RowsByWideKey columns schema table keys) rows =
+    TableShows database schema table (λ object. ShowsWideRows database object (record { columns = columns; keys = keys; bounds = no_bounds }) rows)
+Answers database (RowsAboveWide columns schema table keys above) rows =
+    TableShows database schema table (λ object. ShowsWideRows database object (record { columns = columns; keys = keys; bounds = record { above = Some above; up_to = None } }) rows)
+Answers database (RowsUpToWide columns schema table keys up_to) rows =
+    TableShows database schema table (λ object. ShowsWideRows database object (record { columns = columns; keys = keys; bounds = record { above = None; up_to = Some up_to } }) rows)
+Answers database (RowsBetweenWide columns schema table keys above up_to) rows =
+    TableShows database schema table (λ object. ShowsWideRows database object (record { columns = columns; keys = keys; bounds = record { above = Some above; up_to = Some up_to } }) rows)
+Answers database ProgressDump rows = TableShows database progress_schema (codes "dump") (λ object. ShowsAll database object (codes "digest" ∷ []) rows)
+Answers database ProgressFiles rows = TableShows database progress_schema (codes "files") (λ object. ShowsAll database object (codes "name" ∷ []) rows)
 
 -- a GTID set as the server sends it, with line feeds
 abbrev pub without_line_feeds : List ℕ → List ℕ
 without_line_feeds bytes = filter (λ byte. not (byte == 10)) bytes
 
--- SHOW MASTER STATUS: no row where the history has no mark; else one, with the file, the offset, two others, and the GTID set
+-- SHOW MASTER STATUS and SHOW BINARY LOG STATUS: no row where the history has no mark; else one, with the file, the offset, two others, and the GTID set
 pub record ShowsPosition (position : Position) (rows : List (List Cell)) : Type 0 where
   pub third : Cell
   pub fourth : Cell
@@ -228,9 +319,49 @@ abbrev pub ShowsMark : Option Position → List (List Cell) → Type 0
 ShowsMark None rows = rows ≡ []
 ShowsMark (Some position) rows = ShowsPosition position rows
 
--- the texts of routines and triggers that are asked for aren't withheld
+-- the place of a text in whose place NULL may stand, in a query's only row: that of a routine, a trigger or an event
+abbrev pub withheld_place : Query → Option ℕ
+withheld_place MasterStatus = None
+withheld_place BinaryLogStatus = None
+withheld_place Schemas = None
+withheld_place (Tables schema) = None
+withheld_place (ColumnsQuery schema table) = None
+withheld_place (PrimaryKey schema table) = None
+withheld_place (Triggers schema) = None
+withheld_place (Routines schema) = None
+withheld_place (ViewNeeds schema) = None
+withheld_place (Events schema) = None
+withheld_place (CreateDatabase schema) = None
+withheld_place (CreateTable schema name) = None
+withheld_place (CreateView schema name) = None
+withheld_place (CreateProcedure schema name) = Some 2
+withheld_place (CreateFunction schema name) = Some 2
+withheld_place (CreateTrigger schema name) = Some 2
+withheld_place (CreateEvent schema name) = Some 3
+withheld_place (Key key schema table skipped) = None
+withheld_place (KeyAbove key schema table above skipped) = None
+withheld_place (Rows columns schema table) = None
+withheld_place (RowsByKey columns schema table key) = None
+withheld_place (RowsAbove columns schema table key above) = None
+withheld_place (RowsUpTo columns schema table key up_to) = None
+withheld_place (RowsBetween columns schema table key above up_to) = None
+withheld_place (WideKey keys schema table skipped) = None
+withheld_place (WideKeyAbove keys schema table above skipped) = None
+withheld_place (RowsByWideKey columns schema table keys) = None
+withheld_place (RowsAboveWide columns schema table keys above) = None
+withheld_place (RowsUpToWide columns schema table keys up_to) = None
+withheld_place (RowsBetweenWide columns schema table keys above up_to) = None
+withheld_place ProgressDump = None
+withheld_place ProgressFiles = None
+
+-- the cell there isn't NULL
+abbrev pub is_told : ℕ → List Cell → Bool
+is_told place row = is_some (option_and_then bytes_of (slice_get row place))
+
+abbrev pub are_told : Option ℕ → List (List Cell) → Bool
+are_told None rows = true
+are_told (Some place) rows = list_all (is_told place) rows
+
+-- no text that is asked for is withheld
 abbrev pub tells_text : Query → List (List Cell) → Bool
-tells_text (CreateProcedure schema name) ((first ∷ mode ∷ Null ∷ more) ∷ rows) = false
-tells_text (CreateFunction schema name) ((first ∷ mode ∷ Null ∷ more) ∷ rows) = false
-tells_text (CreateTrigger schema name) ((first ∷ mode ∷ Null ∷ more) ∷ rows) = false
-tells_text query rows = true
+tells_text query rows = are_told (withheld_place query) rows

@@ -8,6 +8,7 @@ use Rattle.sql_cells.specs.Cell.{bytes_of}
 use Rattle.sql_cells.specs.Literal.{has_literal}
 use Rattle.sql_cells.specs.Number.{is_digits, is_number}
 use Rattle.sql_cells.specs.declared.cell.Cell.{Cell}
+use Rattle.sql_cells.specs.declared.cell.Cell.TheVariants.{Null, Value}
 use Rattle.sql_cells.specs.declared.cell_kind.CellKind.TheVariants.{Number}
 
 -- types whose cells are numbers
@@ -21,12 +22,31 @@ is_number_type data_type = list_any (bytes_eq data_type) number_types
 abbrev pub has_number : Column → Cell → Bool
 has_number column cell = not (is_number_type column.data_type) || has_literal Number (bytes_of cell)
 
+-- a column of JSON texts
+abbrev pub is_json : Column → Bool
+is_json column = bytes_eq column.data_type (codes "json")
+
+abbrev pub is_null : Cell → Bool
+is_null Null = true
+is_null (Value bytes) = false
+
+-- a JSON text that the server prints, or NULL; any cell of another column
+abbrev pub is_printed : (List ℕ → Bool) → Column → Cell → Bool
+is_printed prints column Null = true
+is_printed prints column (Value bytes) = not (is_json column) || prints bytes
+
 -- as many cells as columns, each as its column has them
 abbrev pub are_numbers : List Column → List Cell → Bool
 are_numbers [] [] = true
 are_numbers [] (cell ∷ cells) = false
 are_numbers (column ∷ columns) [] = false
 are_numbers (column ∷ columns) (cell ∷ cells) = has_number column cell && are_numbers columns cells
+
+-- each cell of a row is one that the server prints in its column
+abbrev pub are_printed : (List ℕ → Bool) → List Column → List Cell → Bool
+are_printed prints [] cells = true
+are_printed prints (column ∷ columns) [] = true
+are_printed prints (column ∷ columns) (cell ∷ cells) = is_printed prints column cell && are_printed prints columns cells
 
 -- the columns that rows have cells of
 abbrev pub plain_columns : List Column → List Column

@@ -19,7 +19,7 @@ use Rattle.honest_server.specs.Effect.{EndsOpen, EndsTransaction}
 use Rattle.honest_server.specs.Moves.{Way, SeesOthers}
 use Rattle.honest_server.specs.Serve.{Reply, Serves, GivesErr}
 use Rattle.honest_server.specs.Spelled.{Spells, SpellsDone, SpellsErr, IsLean}
-use Rattle.honest_server.specs.State.{State, Phase, greeted, switching, in_session, over, with_others, with_error, closed_state}
+use Rattle.honest_server.specs.State.{Server, State, Phase, greeted, switching, in_session, over, with_others, with_error, closed_state}
 
 -- COM_QUERY is the byte 03 and a text, COM_QUIT the byte 01
 abbrev pub query_payload : List ℕ → List ℕ
@@ -28,11 +28,13 @@ query_payload text = 3 ∷ text
 abbrev pub quit_payload : List ℕ
 quit_payload = 1 ∷ []
 
--- the message is a greeting
-pub record IsGreeting (willing : Bool) (message : List ℕ) : Type 0 where
+-- the message is a greeting, which says how result sets end and whether the server is newer
+pub record IsGreeting (server : Server) (message : List ℕ) : Type 0 where
   pub found : Greeting
   pub says : greeting_of message ≡ Ok found
-  pub lean : willing ≡ true → IsLean message
+  pub ends : found.ends ≡ server.ends
+  pub newer : found.newer ≡ server.newer
+  pub lean : server.willing ≡ true → IsLean message
 
 -- the message asks for the login by this plugin
 abbrev pub AsksFor : List ℕ → List ℕ → Type 0
@@ -55,17 +57,17 @@ pub record SpellsNothing (payload : List ℕ) : Type 0 where
 -- The server answers a payload, which is sent in this way, by these messages, and the link's state is then the second.
 pub data Replies (way : Way) (state : State) (payload : List ℕ) (messages : List (List ℕ)) (new : State) : Type 0 where
   -- the login is taken
-  accepted : IsLoggingIn state.phase → SpellsDone state.terms.willing messages → new ≡ record state { phase = in_session } → Replies way state payload messages new
+  accepted : IsLoggingIn state.phase → SpellsDone state.terms.server messages → new ≡ record state { phase = in_session } → Replies way state payload messages new
   -- an answer over another scramble is asked for, once
-  switched : (message : List ℕ) → state.phase ≡ greeted → AsksFor state.terms.plugin message → (state.terms.willing ≡ true → IsLean message) → messages ≡ message ∷ [] → new ≡ record state { phase = switching } → Replies way state payload messages new
+  switched : (message : List ℕ) → state.phase ≡ greeted → AsksFor state.terms.server.plugin message → (state.terms.server.willing ≡ true → IsLean message) → messages ≡ message ∷ [] → new ≡ record state { phase = switching } → Replies way state payload messages new
   -- the login is refused, and the link is over
-  turned_away : (refusal : Refusal) → IsLoggingIn state.phase → state.terms.willing ≡ false → SpellsErr state.terms.willing refusal messages → new ≡ record (with_error state (Some Connect) refusal) { phase = over } → Replies way state payload messages new
+  turned_away : (refusal : Refusal) → IsLoggingIn state.phase → state.terms.server.willing ≡ false → SpellsErr state.terms.server refusal messages → new ≡ record (with_error state (Some Connect) refusal) { phase = over } → Replies way state payload messages new
   -- the session ends
   quits : state.phase ≡ in_session → payload ≡ quit_payload → messages ≡ [] → new ≡ closed_state state → Replies way state payload messages new
   -- a statement is served
-  served : (text : List ℕ) (statement : Statement) (reply : Reply) → state.phase ≡ in_session → payload ≡ query_payload text → IsReadAs text statement → Serves way state statement reply new → Spells state.terms.willing statement reply messages → Replies way state payload messages new
+  served : (text : List ℕ) (statement : Statement) (reply : Reply) → state.phase ≡ in_session → payload ≡ query_payload text → IsReadAs text statement → Serves way state statement reply new → Spells state.terms.server statement reply messages → Replies way state payload messages new
   -- anything else is answered by ERR
-  unknown : (refusal : Refusal) (more : List Transaction) → state.phase ≡ in_session → SpellsNothing payload → GivesErr state more None refusal new → SpellsErr state.terms.willing refusal messages → Replies way state payload messages new
+  unknown : (refusal : Refusal) (more : List Transaction) → state.phase ≡ in_session → SpellsNothing payload → GivesErr state more None refusal new → SpellsErr state.terms.server refusal messages → Replies way state payload messages new
   -- once the link is over nothing is answered
   ignored : state.phase ≡ over → messages ≡ [] → new ≡ state → Replies way state payload messages new
 

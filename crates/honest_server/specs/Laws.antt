@@ -33,7 +33,7 @@ AGuardedLinkSeesOneCatalogue = (state new : State) (statement : Statement) (repl
 
 -- where nobody else writes, a sole link sees its own transactions alone
 abbrev pub ASoleLinkSeesItsOwn : Type 0
-ASoleLinkSeesItsOwn = (state new : State) (statement : Statement) (reply : Reply) → state.terms.quiet ≡ true → state.terms.sole ≡ true → Serves plainly state statement reply new
+ASoleLinkSeesItsOwn = (state new : State) (statement : Statement) (reply : Reply) → state.terms.server.quiet ≡ true → state.terms.sole ≡ true → Serves plainly state statement reply new
     → (own : List Transaction) × (new.seen ≡ state.seen ++ own) × (new.mine ≡ state.mine ++ own)
 
 -- a snapshot that is taken beside a holder of the read lock shows what the holder has seen
@@ -73,10 +73,10 @@ abbrev pub AnInsertWaitsForItsCommit : Type 0
 AnInsertWaitsForItsCommit = (state new : State) (text : List ℕ) (before : List Change) → state.pending ≡ Some before → Effect state (Insert text) new
     → (new.mine ≡ state.mine) × (new.seen ≡ state.seen) × (more : List Change) × (new.pending ≡ Some (before ++ more))
 
--- a commit ends the history by all of the open transaction at once
+-- a commit ends the history by all of the open transaction at once, where that has changes
 abbrev pub ACommitIsWhole : Type 0
-ACommitIsWhole = (state new : State) (changes : List Change) → state.pending ≡ Some changes → Effect state Commit new
-    → (one : Transaction) × (one.changes ≡ changes) × (new.mine ≡ state.mine ++ one ∷ []) × (new.seen ≡ state.seen ++ one ∷ []) × (new.pending ≡ None)
+ACommitIsWhole = (state new : State) (change : Change) (changes : List Change) → state.pending ≡ Some (change ∷ changes) → Effect state Commit new
+    → (one : Transaction) × (one.changes ≡ change ∷ changes) × (new.mine ≡ state.mine ++ one ∷ []) × (new.seen ≡ state.seen ++ one ∷ []) × (new.pending ≡ None)
 
 -- each list is a front and its rest
 pub data AreJoined : List (List Transaction) → List (List Transaction) → List (List Transaction) → Type 0 where

@@ -12,3 +12,4 @@ pub mod Exchange
 pub mod Link
 pub mod Site
 pub mod Laws
+pub mod WideKey

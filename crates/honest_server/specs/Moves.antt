@@ -9,20 +9,20 @@ use Rattle.honest_server.specs.State.{State}
 pub record MayFollow (state : State) (more : List Transaction) : Type 0 where
   pub frozen : state.frozen ≡ true → more ≡ []
   pub guarded : state.guarded ≡ true → KeepsCatalogue state.seen more
-  pub shared : state.terms.quiet ≡ true → state.terms.sole ≡ false → KeepsCatalogue state.seen more
+  pub catalogue : state.terms.server.quiet ≡ true → state.terms.sole ≡ false → KeepsCatalogue state.seen more
 
 -- What a link may come to see of others at a plain statement. Where nobody else writes, a sole link sees nothing of others, and
 -- neither does any link of a willing site.
 pub record SeesOthers (state : State) (more : List Transaction) : Type 0 where
   pub follows : MayFollow state more
-  pub sole : state.terms.quiet ≡ true → state.terms.sole ≡ true → more ≡ []
-  pub willing : state.terms.quiet ≡ true → state.terms.willing ≡ true → more ≡ []
+  pub sole : state.terms.server.quiet ≡ true → state.terms.sole ≡ true → more ≡ []
+  pub willing : state.terms.server.quiet ≡ true → state.terms.server.willing ≡ true → more ≡ []
 
 -- what a link comes to see at a statement that is sent beside a holder of the read lock: what the holder has seen
 pub record SeesHolder (holder state : State) (more : List Transaction) : Type 0 where
   pub follows : MayFollow state more
   pub joined : state.seen ++ more ≡ holder.seen
-  pub alone : state.terms.quiet ≡ true → state.terms.sole ≡ true → more ≡ []
+  pub alone : state.terms.server.quiet ≡ true → state.terms.sole ≡ true → more ≡ []
 
 -- how a statement is sent: plainly, or beside a holder of the read lock
 pub data Way : Type 0 where

@@ -1,5 +1,5 @@
 -- Which statements an honest server serves, and how (MySQL 8.0 Reference Manual, 17.7.2.3 "Consistent Nonlocking Reads", 15.3.1 "START TRANSACTION, COMMIT, and ROLLBACK Statements").
-use Rattle.std.specs.Prelude.{◌≡◌, ◌⊎◌, true, List, [], Option, Some, None}
+use Rattle.std.specs.Prelude.{◌≡◌, ◌⊎◌, Bool, true, List, [], Option, Some, None}
 use Rattle.wire_forms.specs.declared.refusal.Refusal.{Refusal}
 use Rattle.server_data.specs.Fold.{db, mark}
 use Rattle.server_data.specs.History.{IsPrefix}
@@ -11,13 +11,13 @@ use Rattle.statement_forms.specs.Form.{form_of, query_form}
 use Rattle.statement_forms.specs.declared.form.Form.{Form}
 use Rattle.statement_forms.specs.declared.form.Form.TheVariants.{Select}
 use Rattle.statement_forms.specs.declared.query.Query.{Query}
-use Rattle.statement_forms.specs.declared.query.Query.TheVariants.{MasterStatus}
+use Rattle.statement_forms.specs.declared.query.Query.TheVariants.{MasterStatus, BinaryLogStatus}
 use Rattle.statement_forms.specs.declared.statement.Statement.{Statement}
 use Rattle.statement_forms.specs.declared.statement.Statement.TheVariants.{Command as SomeCommand, Query as SomeQuery}
 use Rattle.honest_server.specs.Answer.{Answers, ShowsMark, tells_text}
 use Rattle.honest_server.specs.Effect.{Effect}
 use Rattle.honest_server.specs.Moves.{Way, plainly, beside, Sees, SeesOthers, Ends}
-use Rattle.honest_server.specs.State.{State, with_others, with_error}
+use Rattle.honest_server.specs.State.{State, has_master_status, with_others, with_error}
 
 -- a reply: OK, rows, or an ERR, after some rows or none
 pub data Reply : Type 0 where
@@ -35,10 +35,17 @@ pub record IsAnswered (state : State) (query : Query) (found : List (List Cell))
   pub database : Database
   pub stands : db (shown_history state (query_form query) state.view) ≡ Some database
   pub answers : Answers database query found
-  pub told : state.terms.willing ≡ true → tells_text query found ≡ true
+  pub texts : state.terms.server.willing ≡ true → tells_text query found ≡ true
 
+-- a status query that the server has is answered by the position of what was seen
+pub record ShowsStatus (has : Bool) (state : State) (found : List (List Cell)) : Type 0 where
+  pub is_there : has ≡ true
+  pub shows : ShowsMark (mark state.seen) found
+
+-- every query but the two for the position is answered over a database; `Answers` lists them all
 abbrev pub QueryServed : State → Query → List (List Cell) → Type 0
-QueryServed state MasterStatus found = ShowsMark (mark state.seen) found
+QueryServed state MasterStatus found = ShowsStatus (has_master_status state.terms.server) state found
+QueryServed state BinaryLogStatus found = ShowsStatus state.terms.server.newer state found
 QueryServed state query found = IsAnswered state query found
 
 -- a statement is handled without an ERR, once the link has seen what it comes to see
@@ -78,15 +85,20 @@ pub record GivesErr (state : State) (more : List Transaction) (form : Option For
   pub lost : MayLose state.pending pending
   pub new_is : new ≡ record (with_error (with_others state more) form refusal) { pending = pending }
 
+-- an ERR, and the rows that came before it
+pub record ErrAfter : Type 0 where
+  pub found : List (List Cell)
+  pub refusal : Refusal
+
 -- A statement is answered by ERR. A willing server does so only where it can't be handled.
-pub record Refuses (way : Way) (state : State) (statement : Statement) (found : List (List Cell)) (refusal : Refusal) (new : State) : Type 0 where
+pub record Refuses (way : Way) (state : State) (statement : Statement) (err : ErrAfter) (new : State) : Type 0 where
   pub more : List Transaction
-  pub gives : GivesErr state more (Some (form_of statement)) refusal new
-  pub before : CameBefore (with_others state more) statement found
-  pub must : state.terms.willing ≡ true → FitsNowhere way state statement more
+  pub gives : GivesErr state more (Some (form_of statement)) err.refusal new
+  pub before : CameBefore (with_others state more) statement err.found
+  pub must : state.terms.server.willing ≡ true → FitsNowhere way state statement more
 
 -- The server may answer the statement on a link in one state by this reply, and the link is then in the other.
 abbrev pub Serves : Way → State → Statement → Reply → State → Type 0
-Serves way state statement (refused found refusal) new = Refuses way state statement found refusal new
+Serves way state statement (refused found refusal) new = Refuses way state statement (record { found = found; refusal = refusal }) new
 Serves way state statement done new = IsHandled way state statement done new
 Serves way state statement (rows found) new = IsHandled way state statement (rows found) new

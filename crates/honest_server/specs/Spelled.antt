@@ -1,6 +1,6 @@
 -- The messages that spell a reply (MySQL source documentation, COM_QUERY Response, ProtocolText::Resultset). How long they may be is a premise of our own.
 use Rattle.std.specs.Prelude.{ℕ, ◌≡◌, ◌≤◌, ◌+◌, ◌*◌, ◌⊎◌, Bool, true, List, [], ◌∷◌, ◌++◌, length, map, replicate, sum_by, Some, All}
-use Rattle.wire_forms.specs.Reading.{definition, row, refused as refused_turn, columns_counted}
+use Rattle.wire_forms.specs.Reading.{definition, row, refused as refused_turn, awaited_count, columns_counted}
 use Rattle.wire_forms.specs.Reply.{reply_of}
 use Rattle.wire_forms.specs.ResultSet.{IsResultSet, turns_of}
 use Rattle.wire_forms.specs.Row.{Cell as SentCell}
@@ -11,11 +11,12 @@ use Rattle.sql_cells.specs.declared.cell.Cell.{Cell}
 use Rattle.sql_cells.specs.declared.cell.Cell.TheVariants.{Null, Value}
 use Rattle.statement_forms.specs.Text.{query_text}
 use Rattle.statement_forms.specs.declared.query.Query.{Query}
-use Rattle.statement_forms.specs.declared.query.Query.TheVariants.{MasterStatus, Columns as ColumnsQuery, CreateDatabase, CreateTable, CreateView, CreateProcedure, CreateFunction, CreateTrigger}
+use Rattle.statement_forms.specs.declared.query.Query.TheVariants.{MasterStatus, BinaryLogStatus, Schemas, Tables, Columns as ColumnsQuery, PrimaryKey, Triggers, Routines, ViewNeeds, Events, CreateDatabase, CreateTable, CreateView, CreateProcedure, CreateFunction, CreateTrigger, CreateEvent, Key, KeyAbove, Rows, RowsByKey, RowsAbove, RowsUpTo, RowsBetween, WideKey, WideKeyAbove, RowsByWideKey, RowsAboveWide, RowsUpToWide, RowsBetweenWide, ProgressDump, ProgressFiles}
 use Rattle.statement_forms.specs.declared.statement.Statement.{Statement}
 use Rattle.statement_forms.specs.declared.statement.Statement.TheVariants.{Command as SomeCommand, Query as SomeQuery}
 use Rattle.honest_server.specs.Answer.{without_line_feeds}
 use Rattle.honest_server.specs.Serve.{Reply, done, rows, refused}
+use Rattle.honest_server.specs.State.{Server}
 
 -- what a willing server adds of its own to a message has at most so many bytes
 abbrev pub own_limit : ℕ
@@ -48,6 +49,10 @@ abbrev pub routine_size : List Cell → ℕ
 routine_size (first ∷ mode ∷ text ∷ client ∷ collation ∷ more) = cell_size mode + cell_size text + cell_size client + cell_size collation
 routine_size cells = 0
 
+abbrev pub event_size : List Cell → ℕ
+event_size (first ∷ mode ∷ zone ∷ text ∷ client ∷ collation ∷ more) = cell_size mode + cell_size zone + cell_size text + cell_size client + cell_size collation
+event_size cells = 0
+
 abbrev pub column_size : List Cell → ℕ
 column_size (name ∷ data_type ∷ more) = cell_size name + cell_size data_type
 column_size cells = 0
@@ -55,14 +60,37 @@ column_size cells = 0
 -- how many bytes of a row are taken from the database or from a mark
 abbrev pub taken_size : Query → List Cell → ℕ
 taken_size MasterStatus cells = file_and_gtid cells
+taken_size BinaryLogStatus cells = file_and_gtid cells
+taken_size Schemas cells = row_size cells
+taken_size (Tables schema) cells = row_size cells
 taken_size (ColumnsQuery schema table) cells = column_size cells
+taken_size (PrimaryKey schema table) cells = row_size cells
+taken_size (Triggers schema) cells = row_size cells
+taken_size (Routines schema) cells = row_size cells
+taken_size (ViewNeeds schema) cells = row_size cells
+taken_size (Events schema) cells = row_size cells
 taken_size (CreateDatabase schema) cells = text_size cells
 taken_size (CreateTable schema name) cells = text_size cells
 taken_size (CreateView schema name) cells = view_size cells
 taken_size (CreateProcedure schema name) cells = routine_size cells
 taken_size (CreateFunction schema name) cells = routine_size cells
 taken_size (CreateTrigger schema name) cells = routine_size cells
-taken_size query cells = row_size cells
+taken_size (CreateEvent schema name) cells = event_size cells
+taken_size (Key key schema table skipped) cells = row_size cells
+taken_size (KeyAbove key schema table above skipped) cells = row_size cells
+taken_size (Rows columns schema table) cells = row_size cells
+taken_size (RowsByKey columns schema table key) cells = row_size cells
+taken_size (RowsAbove columns schema table key above) cells = row_size cells
+taken_size (RowsUpTo columns schema table key up_to) cells = row_size cells
+taken_size (RowsBetween columns schema table key above up_to) cells = row_size cells
+taken_size (WideKey keys schema table skipped) cells = row_size cells
+taken_size (WideKeyAbove keys schema table above skipped) cells = row_size cells
+taken_size (RowsByWideKey columns schema table keys) cells = row_size cells
+taken_size (RowsAboveWide columns schema table keys above) cells = row_size cells
+taken_size (RowsUpToWide columns schema table keys up_to) cells = row_size cells
+taken_size (RowsBetweenWide columns schema table keys above up_to) cells = row_size cells
+taken_size ProgressDump cells = row_size cells
+taken_size ProgressFiles cells = row_size cells
 
 -- each row's message is lean but for what is taken from the database
 abbrev pub AreLeanRows : Query → List (List ℕ) → List (List Cell) → Type 0
@@ -75,7 +103,7 @@ AreLeanRows query (message ∷ messages) (cells ∷ found) = (length message ≤
 abbrev pub IsLeanFront : Query → List ℕ → Type 0
 IsLeanFront query message = length message ≤ own_limit + 5 * length (query_text query)
 
--- the messages are the number of columns, their definitions and an EOF, those of the rows, and the last
+-- the messages are those in front of the rows, which are the number of columns, their definitions and perhaps an EOF, those of the rows, and the last
 pub record IsLeanSet (query : Query) (found : List (List Cell)) (messages : List (List ℕ)) : Type 0 where
   pub front : List (List ℕ)
   pub row_messages : List (List ℕ)
@@ -89,43 +117,43 @@ abbrev pub sent_rows : List (List Cell) → List (List SentCell)
 sent_rows found = map (map bytes_of) found
 
 -- whole rows
-pub record SpellsRowsOf (willing : Bool) (query : Query) (found : List (List Cell)) (messages : List (List ℕ)) : Type 0 where
+pub record SpellsRowsOf (server : Server) (query : Query) (found : List (List Cell)) (messages : List (List ℕ)) : Type 0 where
   pub columns : ℕ
-  pub is_set : IsResultSet columns (sent_rows found) messages
-  pub lean : willing ≡ true → IsLeanSet query found messages
+  pub is_set : IsResultSet server.ends columns (sent_rows found) messages
+  pub lean : server.willing ≡ true → IsLeanSet query found messages
 
 -- one message, which is an ERR
-pub record SpellsErr (willing : Bool) (refusal : Refusal) (messages : List (List ℕ)) : Type 0 where
+pub record SpellsErr (server : Server) (refusal : Refusal) (messages : List (List ℕ)) : Type 0 where
   pub message : List ℕ
   pub messages_are : messages ≡ message ∷ []
   pub says : reply_of message ≡ Some (Refused refusal)
-  pub lean : willing ≡ true → IsLean message
+  pub lean : server.willing ≡ true → IsLean message
 
 -- an ERR after some rows of a query
-pub record BreaksOff (willing : Bool) (query : Query) (found : List (List Cell)) (refusal : Refusal) (messages : List (List ℕ)) : Type 0 where
+pub record BreaksOff (server : Server) (query : Query) (found : List (List Cell)) (refusal : Refusal) (messages : List (List ℕ)) : Type 0 where
   pub columns : ℕ
   pub first : List ℕ
   pub others : List (List ℕ)
   pub messages_are : messages ≡ first ∷ others
   pub counts : reply_of first ≡ Some (Columns columns)
-  pub turns : turns_of (columns_counted columns) others ≡ replicate (columns + 1) definition ++ (map row (sent_rows found) ++ refused_turn refusal ∷ [])
-  pub lean : willing ≡ true → IsLeanSet query found messages
+  pub turns : turns_of (columns_counted server.ends columns) others ≡ replicate (awaited_count server.ends columns) definition ++ (map row (sent_rows found) ++ refused_turn refusal ∷ [])
+  pub lean : server.willing ≡ true → IsLeanSet query found messages
 
-pub record SpellsDone (willing : Bool) (messages : List (List ℕ)) : Type 0 where
+pub record SpellsDone (server : Server) (messages : List (List ℕ)) : Type 0 where
   pub message : List ℕ
   pub messages_are : messages ≡ message ∷ []
   pub says : reply_of message ≡ Some Done
-  pub lean : willing ≡ true → IsLean message
+  pub lean : server.willing ≡ true → IsLean message
 
 -- an ERR alone, or after the front of a result set
-abbrev pub SpellsRefusal : Bool → Query → List (List Cell) → Refusal → List (List ℕ) → Type 0
-SpellsRefusal willing query found refusal messages = ((found ≡ []) × SpellsErr willing refusal messages) ⊎ BreaksOff willing query found refusal messages
+abbrev pub SpellsRefusal : Server → Query → List (List Cell) → Refusal → List (List ℕ) → Type 0
+SpellsRefusal server query found refusal messages = ((found ≡ []) × SpellsErr server refusal messages) ⊎ BreaksOff server query found refusal messages
 
--- these messages of a server, which may be willing, spell the reply to a statement
-abbrev pub Spells : Bool → Statement → Reply → List (List ℕ) → Type 0
-Spells willing (SomeCommand command) done messages = SpellsDone willing messages
-Spells willing (SomeCommand command) (rows found) messages = ⊥
-Spells willing (SomeCommand command) (refused found refusal) messages = SpellsErr willing refusal messages
-Spells willing (SomeQuery query) done messages = ⊥
-Spells willing (SomeQuery query) (rows found) messages = SpellsRowsOf willing query found messages
-Spells willing (SomeQuery query) (refused found refusal) messages = SpellsRefusal willing query found refusal messages
+-- these messages of a server spell the reply to a statement
+abbrev pub Spells : Server → Statement → Reply → List (List ℕ) → Type 0
+Spells server (SomeCommand command) done messages = SpellsDone server messages
+Spells server (SomeCommand command) (rows found) messages = ⊥
+Spells server (SomeCommand command) (refused found refusal) messages = SpellsErr server refusal messages
+Spells server (SomeQuery query) done messages = ⊥
+Spells server (SomeQuery query) (rows found) messages = SpellsRowsOf server query found messages
+Spells server (SomeQuery query) (refused found refusal) messages = SpellsRefusal server query found refusal messages

@@ -1,5 +1,6 @@
 -- The state of a link, as an honest server keeps it (MySQL 8.0 Reference Manual, 15.3 "Transactional and Locking Statements", 7.1.9 "Using System Variables").
-use Rattle.std.specs.Prelude.{ℕ, Bool, false, List, [], ◌++◌, ◌∷◌, Option, Some, None, option_and_then}
+use Rattle.std.specs.Prelude.{ℕ, Bool, false, ◌||◌, not, List, [], ◌++◌, ◌∷◌, Option, Some, None, option_and_then}
+use Rattle.wire_forms.specs.declared.ends.Ends.{Ends}
 use Rattle.wire_forms.specs.declared.refusal.Refusal.{Refusal}
 use Rattle.server_data.specs.Fold.{db, changes_db}
 use Rattle.server_data.specs.declared.data.Change.{Change}
@@ -20,14 +21,27 @@ pub record Given : Type 0 where
   pub form : Option Form
   pub refusal : Refusal
 
--- what is the same for a link's whole life: the site's history when it was made, whether nobody else writes, whether it is the
--- only link, whether the server answers ERR only where it must, and the plugin of its accounts
-pub record Terms : Type 0 where
-  pub base : List Transaction
+-- What is fixed of a server: whether nobody but the links of one site writes, whether it answers ERR only where it must, the plugin of its
+-- accounts, whether it is of version 8.2 or newer, how its result sets end, whether a newer one still has SHOW MASTER STATUS, and which texts
+-- it prints as JSON.
+pub record Server : Type 0 where
   pub quiet : Bool
-  pub sole : Bool
   pub willing : Bool
   pub plugin : List ℕ
+  pub newer : Bool
+  pub ends : Ends
+  pub old_status : Bool
+  pub prints : List ℕ → Bool
+
+-- SHOW MASTER STATUS is there before version 8.2, and may be there after it (MySQL 8.4 removed it)
+abbrev pub has_master_status : Server → Bool
+has_master_status server = not server.newer || server.old_status
+
+-- what is the same for a link's whole life: its server, the site's history when it was made, and whether it is the only link
+pub record Terms : Type 0 where
+  pub server : Server
+  pub base : List Transaction
+  pub sole : Bool
 
 -- `seen` is the history at its last answer; it is `guarded` while it holds the backup lock, and `frozen` while it holds the read lock;
 -- `view` is the history that its snapshot shows, `pending` the changes of its open transaction, `mine` its own transactions;
@@ -48,7 +62,7 @@ pub record State : Type 0 where
 
 -- no setting was made
 abbrev pub no_settings : Settings
-no_settings = record { sql_mode = []; client = []; collation = [] }
+no_settings = record { sql_mode = []; client = []; collation = []; zone = [] }
 
 -- the changes of the open transaction
 abbrev pub open_changes : Option (List Change) → List Change

@@ -5,7 +5,7 @@ use Rattle.std.specs.Str.{is_utf8}
 use Rattle.object_forms.specs.Head.{Making, Path, making, trigger_table}
 use Rattle.object_forms.specs.Shape.{TableShape, TableCounter, shape, counter, name_value}
 use Rattle.object_forms.specs.declared.kind.Kind.{Kind}
-use Rattle.object_forms.specs.declared.kind.Kind.TheVariants.{Schema, Table, Procedure, Function, View, Trigger}
+use Rattle.object_forms.specs.declared.kind.Kind.TheVariants.{Schema, Table, Procedure, Function, View, Trigger, Event}
 use Rattle.object_forms.specs.declared.shape.Column.{Column}
 use Rattle.server_data.specs.Fold.{has_object, rows_of, db}
 use Rattle.server_data.specs.Select.{is_empty}
@@ -16,7 +16,8 @@ use Rattle.server_data.specs.declared.data.Position.{Position}
 use Rattle.server_data.specs.declared.data.Settings.{Settings}
 use Rattle.server_data.specs.declared.data.Transaction.{Transaction}
 use Rattle.sql_cells.specs.declared.cell.Cell.{Cell}
-use Rattle.honest_server.specs.Columns.{are_numbers, plain_columns, integer_at, is_in_type, is_under, whole_at}
+use Rattle.honest_server.specs.State.{Server}
+use Rattle.honest_server.specs.Columns.{are_numbers, are_printed, plain_columns, integer_at, is_in_type, is_under, whole_at}
 
 -- a name is UTF-8, and isn't empty
 abbrev pub is_name : List ℕ → Bool
@@ -36,14 +37,21 @@ pub record HasItsHead (object : Object) : Type 0 where
   pub schema : NamesOrLeavesOut found.path.schema object.schema
   pub own : object.kind ≡ Schema → object.schema ≡ object.name
 
--- a procedure, a function, a view and a trigger have settings, and a view's sql_mode is empty
+-- settings without a time zone
+pub record IsWithoutZone (settings : Option Settings) : Type 0 where
+  pub made : Settings
+  pub settings_are : settings ≡ Some made
+  pub no_zone : made.zone ≡ []
+
+-- a procedure, a function, a view, a trigger and an event have settings; only an event has a time zone, and a view's sql_mode is empty
 abbrev pub HasItsSettings : Kind → Option Settings → Type 0
 HasItsSettings Schema settings = settings ≡ None
 HasItsSettings Table settings = settings ≡ None
-HasItsSettings Procedure settings = (made : Settings) × (settings ≡ Some made)
-HasItsSettings Function settings = (made : Settings) × (settings ≡ Some made)
-HasItsSettings View settings = (made : Settings) × (settings ≡ Some made) × (made.sql_mode ≡ [])
-HasItsSettings Trigger settings = (made : Settings) × (settings ≡ Some made)
+HasItsSettings Procedure settings = IsWithoutZone settings
+HasItsSettings Function settings = IsWithoutZone settings
+HasItsSettings View settings = (plain : IsWithoutZone settings) × (plain.made.sql_mode ≡ [])
+HasItsSettings Trigger settings = IsWithoutZone settings
+HasItsSettings Event settings = (made : Settings) × (settings ≡ Some made)
 
 -- a table's columns and key are those of its text's shape
 pub record IsShaped (object : Object) : Type 0 where
@@ -58,8 +66,13 @@ pub record IsUnshaped (object : Object) : Type 0 where
 
 -- no other object has columns and a key
 abbrev pub HasItsShape : Object → Kind → Type 0
+HasItsShape object Schema = IsUnshaped object
 HasItsShape object Table = IsShaped object
-HasItsShape object kind = IsUnshaped object
+HasItsShape object Procedure = IsUnshaped object
+HasItsShape object Function = IsUnshaped object
+HasItsShape object View = IsUnshaped object
+HasItsShape object Trigger = IsUnshaped object
+HasItsShape object Event = IsUnshaped object
 
 -- a trigger needs one table, which is that of its text and of its schema
 pub record NeedsItsTable (object : Object) (table : Need) : Type 0 where
@@ -72,8 +85,13 @@ pub record NeedsItsTable (object : Object) (table : Need) : Type 0 where
 
 -- and that table is there
 abbrev pub HasItsTable : Database → Object → Kind → Type 0
+HasItsTable database object Schema = Unit {0}
+HasItsTable database object Table = Unit {0}
+HasItsTable database object Procedure = Unit {0}
+HasItsTable database object Function = Unit {0}
+HasItsTable database object View = Unit {0}
 HasItsTable database object Trigger = (table : Need) × NeedsItsTable object table × (has_object database Table table.schema table.name ≡ true)
-HasItsTable database object kind = Unit {0}
+HasItsTable database object Event = Unit {0}
 
 -- the key of each row is an integer of its column's type, and no two rows have the same
 pub record HasKeys (columns : List Column) (index : ℕ) (rows : List (List Cell)) : Type 0 where
@@ -103,8 +121,13 @@ pub record HasGoodRows (object : Object) (rows : List (List Cell)) : Type 0 wher
   pub counted : IsCountedWhere object.columns (counter object.text) rows
 
 abbrev pub HasGoodRowsWhere : Database → Object → Kind → Type 0
+HasGoodRowsWhere database object Schema = Unit {0}
 HasGoodRowsWhere database object Table = HasGoodRows object (rows_of database object.schema object.name)
-HasGoodRowsWhere database object kind = Unit {0}
+HasGoodRowsWhere database object Procedure = Unit {0}
+HasGoodRowsWhere database object Function = Unit {0}
+HasGoodRowsWhere database object View = Unit {0}
+HasGoodRowsWhere database object Trigger = Unit {0}
+HasGoodRowsWhere database object Event = Unit {0}
 
 -- what is needed has a schema and a name
 pub record IsNamed (need : Need) : Type 0 where
@@ -136,9 +159,14 @@ can_be_written position = not (is_empty position.file) && (list_all is_visible p
 abbrev pub HasGoodMark : Transaction → Type 0
 HasGoodMark one = IfSome one.mark (λ position. can_be_written position ≡ true)
 
--- the history ends in a well-formed database, and its marks can be written
-pub record IsSound (history : List Transaction) : Type 0 where
+-- each JSON text in the rows of an object, which only a table has, is one that the server prints
+abbrev pub IsPrinted : (List ℕ → Bool) → Database → Object → Type 0
+IsPrinted prints database object = All (λ row. are_printed prints (plain_columns object.columns) row ≡ true) (rows_of database object.schema object.name)
+
+-- the history ends in a well-formed database, whose JSON texts are as the server prints them, and its marks can be written
+pub record IsSound (server : Server) (history : List Transaction) : Type 0 where
   pub database : Database
   pub stands : db history ≡ Some database
   pub well_formed : IsWellFormed database
+  pub printed : All (IsPrinted server.prints database) database.objects
   pub marks : All HasGoodMark history

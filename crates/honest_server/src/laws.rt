@@ -1,4 +1,4 @@
-// What follows from the definitions. Nothing here runs: the contracts are the laws.
+//! What follows from the definitions. Nothing here runs: the contracts are the laws.
 ghost use Rattle.honest_server.specs.Laws.{AFrozenLinkSeesNothingNew, AGuardedLinkSeesOneCatalogue, ASoleLinkSeesItsOwn, ASnapshotBesideShowsTheHolders, AStatementBesideSeesTheHolders, RowsBeforeAnErrAreOfAnAnswer, APlainSnapshotMayShowMore, ThePositionMayMoveAfterTheLock, AnInsertAloneIsCommitted, AnInsertWaitsForItsCommit, ACommitIsWhole, AGrantCanStandFirst, IntegersAreRead, ANewLinkHoldsNothing};
 
 /// A link that holds the read lock sees nothing new at a plain statement, and commits nothing.
