@@ -1,11 +1,13 @@
-// Cases of a directory, and of the shelf of it that is out.
+//! Cases of a directory, and of the shelf of it that is out.
 
 use crate::shelf_cases::ShelfCases;
-use crate::words::{or_nothing, said, said_of};
+use crate::trap_disk::TrapDisk;
+use crate::words::{first_word, or_nothing, said, said_of};
 use link_traits::{Folder, FolderFailed};
 use plain_data::NameList;
 use std::alloc::Global;
 use std::marker::Model;
+use std::os::unix::fs::MetadataExt;
 use std::{fs, io};
 use system_outside::DiskFolder;
 
@@ -13,7 +15,7 @@ use system_outside::DiskFolder;
 #[derive(Drop)]
 pub struct DiskCases {
     rt: HostRuntime,
-    folder: DiskFolder<HostRuntime>,
+    folder: DiskFolder<TrapDisk>,
     shelf: Option<ShelfCases>,
 }
 
@@ -33,7 +35,7 @@ impl DiskCases {
     pub fn new(rt: HostRuntime) -> DiskCases {
         DiskCases {
             rt,
-            folder: DiskFolder::new(rt),
+            folder: DiskFolder::new(TrapDisk::new(rt)),
             shelf: None,
         }
     }
@@ -44,6 +46,7 @@ impl DiskCases {
             "new" => self.begin(),
             "aim" => self.aim(words),
             "list" => self.list(),
+            "rename" => self.rename(words),
             "shelf" => self.shelf(),
             "take_back" => self.take_back(),
             "faults" => Ok(format!(in self.rt.alloc(); "{}", self.folder.faults())?),
@@ -66,12 +69,13 @@ impl DiskCases {
             "write" => self.write(path),
             "read" => fs::read_to_string(&self.rt, path),
             "is_dir" => self.is_dir(path),
+            "mode" => self.mode(path),
             _ => said(self.rt.alloc(), "no call"),
         }
     }
 
     fn begin(&mut self) -> io::Result<String> {
-        self.folder = DiskFolder::new(self.rt);
+        self.folder = DiskFolder::new(TrapDisk::new(self.rt));
         self.shelf = None;
         said(self.rt.alloc(), "a folder")
     }
@@ -86,6 +90,12 @@ impl DiskCases {
             Ok(names) => listed(self.rt.alloc(), &names),
             Err(fault) => Ok(format!(in self.rt.alloc(); "{fault}")?),
         }
+    }
+
+    fn rename(&mut self, words: &str) -> io::Result<String> {
+        let (from, to) = first_word(words);
+        let renamed = self.folder.rename(from, to).is_ok();
+        said_of(self.rt.alloc(), renamed, "renamed")
     }
 
     fn shelf(&mut self) -> io::Result<String> {
@@ -118,6 +128,12 @@ impl DiskCases {
     fn write(&self, path: &str) -> io::Result<String> {
         fs::write(&self.rt, path, "a file")?;
         said(self.rt.alloc(), "written")
+    }
+
+    // Who may do what with a file or a directory.
+    fn mode(&self, path: &str) -> io::Result<String> {
+        let mode = fs::metadata(&self.rt, path)?.mode() & 0o777;
+        Ok(format!(in self.rt.alloc(); "{mode:o}")?)
     }
 
     fn is_dir(&self, path: &str) -> io::Result<String> {

@@ -1,4 +1,4 @@
-// Cases of a link over TCP or over a wire.
+//! Cases of a link over TCP or over a wire.
 ghost use Rattle.std.specs.Prelude.{◌≡◌, ◌<◌, length};
 
 use crate::wire::Wire;

@@ -10,6 +10,7 @@ mod peer;
 mod report_cases;
 mod shelf_cases;
 mod site_cases;
+mod trap_disk;
 mod wire;
 mod words;
 

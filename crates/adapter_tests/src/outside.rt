@@ -1,4 +1,4 @@
-// One adapter of each kind.
+//! One adapter of each kind.
 
 use crate::disk_cases::DiskCases;
 use crate::link_cases::WireCases;

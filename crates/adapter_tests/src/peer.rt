@@ -1,4 +1,4 @@
-// The peer of the links: a listener on the loopback, and its end of the last connection.
+//! The peer of the links: a listener on the loopback, and its end of the last connection.
 
 use crate::words::{bytes_of, number_of, said, spelled};
 use std::io;

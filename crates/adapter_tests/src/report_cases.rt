@@ -1,4 +1,4 @@
-// Cases of the sink and of the clock.
+//! Cases of the sink and of the clock.
 
 use crate::words::{first_word, said};
 use link_traits::{Clock, ClockFailed, Sink};

@@ -1,4 +1,4 @@
-// Cases of a server over TCP, and of the link to it that is out.
+//! Cases of a server over TCP, and of the link to it that is out.
 
 use crate::link_cases::answer_link;
 use crate::peer::Peer;
@@ -25,7 +25,7 @@ impl Model for SiteCases {
 
     ghost view = { λ s. s.site };
 
-    ghost invariant = { λ s. s.site.out ≡ (if is_some s.link then 1 else 0) };
+    ghost invariant = { λ s. s.site.links.out ≡ (if is_some s.link then 1 else 0) };
 }
 
 impl SiteCases {

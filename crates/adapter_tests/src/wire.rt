@@ -1,4 +1,4 @@
-// A connection that serves badly.
+//! A connection that serves badly.
 
 use std::fs::File;
 use std::io;

@@ -1,6 +1,7 @@
 -- Files, and what a folder and a shelf hold.
-use Rattle.std.specs.Prelude.{ℕ, List, map, Contains, IsPermutation, IsSorted}
-use Rattle.std.specs.Cmp.Lexicographic.{slice_cmp}
+use Rattle.std.specs.Prelude.{◌≡◌, ℕ, nat_eq, Bool, false, List, [], ◌∷◌, map, Contains, IsPermutation, IsSorted, Option, Some, None, if◌then◌else◌}
+use Rattle.std.specs.List.{list_any}
+use Rattle.std.specs.Cmp.Lexicographic.{slice_cmp, pointwise}
 use Rattle.std.specs.Ordering.{nat_cmp}
 
 -- a file's name and its bytes
@@ -11,6 +12,24 @@ pub record File : Type 0 where
 abbrev pub names : List File → List (List ℕ)
 names files = map (λ file. file.name) files
 
+-- whether the file has this name
+abbrev pub is_named : List ℕ → File → Bool
+is_named name file = pointwise nat_eq file.name name
+
+-- whether one of the files has this name
+abbrev pub has_name : List ℕ → List File → Bool
+has_name name files = list_any (is_named name) files
+
+-- the bytes of the first file of this name, if there is one
+abbrev pub bytes_of : List File → List ℕ → Option (List ℕ)
+bytes_of [] name = None
+bytes_of (first ∷ others) name = if is_named name first then Some first.bytes else bytes_of others name
+
+-- no two of the files have one name
+abbrev pub HaveOwnNames : List File → Type 0
+HaveOwnNames [] = Unit {0}
+HaveOwnNames (file ∷ files) = (has_name file.name files ≡ false) × HaveOwnNames files
+
 -- the names of these files, each as often as it stands, in the order of their bytes
 pub record IsListing (found : List (List ℕ)) (files : List File) : Type 0 where
   pub same : IsPermutation found (names files)
@@ -20,7 +39,20 @@ pub record IsListing (found : List (List ℕ)) (files : List File) : Type 0 wher
 abbrev pub AreApart : List File → List File → Type 0
 AreApart files others = (name : List ℕ) → Contains (names files) name → Contains (names others) name → ⊥
 
--- the files that a shelf has made, and the one that it has begun
+-- the bytes of an open file: those that were read, and those that are left
+pub record OpenFile : Type 0 where
+  pub read : List ℕ
+  pub left : List ℕ
+
+-- the files that the folder had when it gave the shelf, and the one of them that is open; the files
+-- that the shelf has made, and the one that it has begun
 pub record ShelfTold : Type 0 where
+  pub seen : List File
+  pub opened : OpenFile
   pub made : List File
   pub begun : File
+
+-- no two files that the shelf saw have one name, and no two that it has made
+pub record IsSoundShelf (told : ShelfTold) : Type 0 where
+  pub seen : HaveOwnNames told.seen
+  pub made : HaveOwnNames told.made

@@ -1,5 +1,5 @@
 -- What a link tells, and what its calls do to it.
-use Rattle.std.specs.Prelude.{◌≡◌, ◌<◌, ◌≤◌, ℕ, Bool, true, false, List, [], ◌∷◌, ◌++◌, length, take, Result, OnOk, OnErr, IfOk}
+use Rattle.std.specs.Prelude.{◌≡◌, ◌↔◌, ◌<◌, ◌≤◌, ℕ, Bool, true, false, List, [], ◌∷◌, ◌++◌, length, take, Result, OnOk, OnErr, IfOk}
 
 -- the messages that were sent, the bytes that wait, those that each next send makes wait, and whether the link has failed
 pub record Told : Type 0 where
@@ -65,3 +65,9 @@ pub record Receives {E : Type 0} (old : Told) (buffer : List ℕ) (result : Resu
 pub record IsWithin (room : List ℕ) (count : ℕ) : Type 0 where
   pub some : 0 < count
   pub fits : count ≤ length room
+
+-- What a call of a link keeps: whether it is honest, and whether it tells what is said on it; and it stays a link of its site.
+pub record StaysLink {L : Type 0} (honest tells : L → Type 0) (same_origin : L → L → Type 0) (old new : L) : Type 0 where
+  pub still_honest : honest old ↔ honest new
+  pub still_tells : tells old ↔ tells new
+  pub origin : same_origin old new

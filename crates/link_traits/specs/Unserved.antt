@@ -1,10 +1,15 @@
 -- What links and sites are said to keep of whose servers nothing is told.
 use Rattle.std.specs.Prelude.{false, []}
+use Rattle.wire_forms.specs.declared.ends.Ends.TheVariants.{Eof}
 use Rattle.honest_server.specs.Link.{ServedLink}
 use Rattle.honest_server.specs.Site.{ServedSite, fresh_state}
+use Rattle.honest_server.specs.State.{Server}
+
+abbrev pub unserved : Server
+unserved = record { quiet = false; willing = false; plugin = []; newer = false; ends = Eof; old_status = false; prints = λ bytes. false }
 
 abbrev pub unserved_link : ServedLink
-unserved_link = record { waiting = []; state = fresh_state (record { base = []; quiet = false; sole = false; willing = false; plugin = [] }) []; failed = false }
+unserved_link = record { waiting = []; state = fresh_state (record { server = unserved; base = []; sole = false }) []; failed = false; keeps_wide = false }
 
 abbrev pub unserved_site : ServedSite
-unserved_site = record { history = []; returned = []; errors = []; grants = []; quiet = false; willing = false; plugin = [] }
+unserved_site = record { server = unserved; history = []; returned = []; errors = []; grants = []; keeps_wide = false }

@@ -1,6 +1,7 @@
-// The time of day.
-ghost use Rattle.std.specs.Prelude.{◌≡◌, ◌<◌, ◌++◌, ◌∷◌, ◌↔◌, [], ℕ, List, IfOk, OnErr};
+//! The time of day.
+ghost use Rattle.std.specs.Prelude.{◌<◌, ◌↔◌, ℕ, List, IfOk};
 ghost use Rattle.link_traits.specs.Cause.{HasCause};
+ghost use Rattle.link_traits.specs.Reports.{GivesMoment};
 
 use thiserror::Error;
 
@@ -23,8 +24,7 @@ pub trait Clock {
     /// The seconds since 1970, before the year 9999. Any other time is a failure.
     fn now(&mut self) -> Result<u64, ClockFailed>
         ensures tells { tells self.old ↔ tells self.new }
-        ensures ok { tells self.old → IfOk result (λ moment. given self.new ≡ given self.old ++ moment ∷ []) }
-        ensures err { tells self.old → OnErr result (given self.new ≡ given self.old) }
+        ensures given { tells self.old → GivesMoment (given self.old) result (given self.new) }
         ensures in_range { IfOk result (λ moment. moment < 253370764800) }
         ensures cause { HasCause (faults self.old) (faults self.new) result };
 }

@@ -1,11 +1,8 @@
-// A link to a server.
-ghost use Rattle.std.specs.Prelude.{◌≡◌, ◌≢◌, ◌<◌, ◌↔◌, ℕ, [], true, false, length, IfOk, OnOk, IsErr};
-ghost use Rattle.honest_server.specs.Exchange.{IsWholeMessage};
-ghost use Rattle.honest_server.specs.Link.{ServedLink, Sends as IsServed, SendsBeside, Receives as TakesServed, IsNoCreate, IsSoundState};
-ghost use Rattle.honest_server.specs.State.{in_session};
-ghost use Rattle.server_data.specs.History.{IsPrefix};
+//! A link to a server.
+ghost use Rattle.std.specs.Prelude.{◌≡◌, ◌≢◌, ◌<◌, ℕ, [], true, false, length, IfOk};
+ghost use Rattle.honest_server.specs.Link.{ServedLink, IsSoundLink, MaySend, MayStandBeside, Receives as TakesServed, Sends as IsServed, SendsBeside};
 ghost use Rattle.link_traits.specs.Cause.{HasCause};
-ghost use Rattle.link_traits.specs.Link.{Told, Sends, Receives, IsWithin};
+ghost use Rattle.link_traits.specs.Link.{Told, IsWithin, Receives, Sends, StaysLink};
 
 use thiserror::Error;
 
@@ -36,56 +33,41 @@ pub trait Link: Drop {
     ghost same_origin: { Self → Self → Type 0 };
 
     /// Sends one whole client message with its packet headers. At `Ok` the server has handled it, and
-    /// its reply's bytes wait. Its conditions are that the message is whole packets with the right ids,
-    /// and that in a session on a link which isn't sole it is no object's text.
+    /// its reply's bytes wait. Its condition is that on an honest link the message is whole packets
+    /// with the right ids, and in a session on a link that isn't sole no object's text.
     fn send(&mut self, message: &[u8]) -> Result<(), LinkFailed>
-        requires whole { honest self.old → IsWholeMessage (served self.old).state.phase message.now }
-        requires no_create { honest self.old → (served self.old).state.phase ≡ in_session → (served self.old).state.terms.sole ≡ false → IsNoCreate message.now }
+        requires may { honest self.old → MaySend (served self.old).state message.now }
 
-        ensures honest { honest self.old ↔ honest self.new }
-        ensures served { honest self.old → (served self.old).failed ≡ false → IsServed (served self.old) message.now result (served self.new) }
-        ensures dead { honest self.old → (served self.old).failed ≡ true → IsErr result × (served self.new ≡ served self.old) }
-        ensures tells { tells self.old ↔ tells self.new }
+        ensures stays { StaysLink honest tells same_origin self.old self.new }
+        ensures served { honest self.old → IsServed (served self.old) message.now result (served self.new) }
         ensures sent { tells self.old → Sends (told self.old) message.now result (told self.new) }
-        ensures origin { same_origin self.old self.new }
         ensures cause { HasCause (faults self.old) (faults self.new) result };
 
     /// Sends one message while a link that holds the read lock is lent: the server handles it at what
-    /// that link has seen. Its conditions are that both are of one site, that the holder hasn't failed
-    /// and holds the lock, that this link has no transactions of its own, and those of `send`. Where
-    /// the holder hasn't seen what this link has, the call fails.
+    /// that link has seen. Its conditions are, on an honest link: that of `send`; that both are links
+    /// of one site; and that the holder hasn't failed and holds the lock, and this link has no
+    /// transactions of its own. Where the holder hasn't seen what this link has, the call fails.
     fn send_beside(&mut self, holder: &Self, message: &[u8]) -> Result<(), LinkFailed>
-        requires whole { honest self.old → IsWholeMessage (served self.old).state.phase message.now }
-        requires no_create { honest self.old → (served self.old).state.phase ≡ in_session → (served self.old).state.terms.sole ≡ false → IsNoCreate message.now }
-        requires one_site { honest self.old → honest holder.now → same_origin self.old holder.now }
-        requires none_mine { honest self.old → (served self.old).state.mine ≡ [] }
-        requires alive { honest holder.now → (served holder.now).failed ≡ false }
-        requires frozen { honest holder.now → (served holder.now).state.frozen ≡ true }
+        requires may { honest self.old → MaySend (served self.old).state message.now }
+        requires one_site { honest self.old → same_origin self.old holder.now }
+        requires beside { honest self.old → MayStandBeside (served holder.now) (served self.old) }
 
-        ensures honest { honest self.old ↔ honest self.new }
-        ensures served { honest self.old → honest holder.now → (served self.old).failed ≡ false → SendsBeside (served holder.now).state (served self.old) message.now result (served self.new) }
-        ensures after { honest self.old → honest holder.now → OnOk result (IsPrefix (served self.old).state.seen (served holder.now).state.seen) }
-        ensures apart { honest self.old → (honest holder.now → ⊥) → (served self.old).failed ≡ false → IsServed (served self.old) message.now result (served self.new) }
-        ensures dead { honest self.old → (served self.old).failed ≡ true → IsErr result × (served self.new ≡ served self.old) }
-        ensures tells { tells self.old ↔ tells self.new }
+        ensures stays { StaysLink honest tells same_origin self.old self.new }
+        ensures served { honest self.old → SendsBeside (served holder.now).state (served self.old) message.now result (served self.new) }
         ensures sent { tells self.old → Sends (told self.old) message.now result (told self.new) }
-        ensures origin { same_origin self.old self.new }
         ensures cause { HasCause (faults self.old) (faults self.new) result };
 
     /// Takes some of the bytes that wait, at least one, into the front of the buffer, and answers how
     /// many. A peer that closes, and nothing that waits, are failures. Its conditions are that the
-    /// buffer isn't empty, and that on an honest link bytes wait.
+    /// buffer isn't empty, and that on an honest link that hasn't failed bytes wait.
     fn recv(&mut self, buffer: &mut [u8]) -> Result<usize, LinkFailed>
         requires room { 0 < length buffer.old }
         requires waits { honest self.old → (served self.old).failed ≡ false → (served self.old).waiting ≢ [] }
 
-        ensures honest { honest self.old ↔ honest self.new }
-        ensures served { honest self.old → (served self.old).failed ≡ false → TakesServed (served self.old) buffer.new result (served self.new) }
-        ensures dead { honest self.old → (served self.old).failed ≡ true → IsErr result × (served self.new ≡ served self.old) }
-        ensures tells { tells self.old ↔ tells self.new }
+        ensures stays { StaysLink honest tells same_origin self.old self.new }
+        ensures served { honest self.old → TakesServed (served self.old) buffer.new result (served self.new) }
         ensures received { tells self.old → Receives (told self.old) buffer.new result (told self.new) }
         ensures within { IfOk result (λ count. IsWithin buffer.old count) }
-        ensures origin { same_origin self.old self.new }
         ensures cause { HasCause (faults self.old) (faults self.new) result };
 
     /// A link is of one site with itself.
@@ -97,6 +79,9 @@ pub trait Link: Drop {
     /// Where one link is of another's site, and that of a third's, the first is of the third's.
     ghost origins_join: { (one next last : Self) → same_origin one next → same_origin next last → same_origin one last };
 
+    /// What is of one site with an honest link is honest.
+    ghost honest_alike: { (one other : Self) → same_origin one other → honest one → honest other };
+
     /// What an honest server keeps of a link is sound.
-    ghost sound: { (link : Self) → honest link → IsSoundState (served link).state };
+    ghost sound: { (link : Self) → honest link → IsSoundLink (served link) };
 }

@@ -1,6 +1,7 @@
-// Where reports go.
-ghost use Rattle.std.specs.Prelude.{◌≡◌, ◌++◌, ◌↔◌, ℕ, List, OnOk, OnErr, take};
+//! Where reports go.
+ghost use Rattle.std.specs.Prelude.{◌↔◌, ℕ, List};
 ghost use Rattle.link_traits.specs.Cause.{HasCause};
+ghost use Rattle.link_traits.specs.Reports.{Reports};
 
 use thiserror::Error;
 
@@ -23,7 +24,7 @@ pub trait Sink {
     /// Writes all bytes. At a failure a front of them was written.
     fn write(&mut self, bytes: &[u8]) -> Result<(), SinkFailed>
         ensures tells { tells self.old ↔ tells self.new }
-        ensures ok { tells self.old → OnOk result (written self.new ≡ written self.old ++ bytes.now) }
-        ensures err { tells self.old → OnErr result ((count : ℕ) × (written self.new ≡ written self.old ++ take count bytes.now)) }
+        ensures written { tells self.old →
+            Reports (written self.old) bytes.now result (written self.new) }
         ensures cause { HasCause (faults self.old) (faults self.new) result };
 }

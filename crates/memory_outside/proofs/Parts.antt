@@ -1,18 +1,16 @@
 -- Files that stand in parts.
-use Rattle.std.proofs.Common.{◌≡◌, ℕ, zero, suc, ◌+◌, ◌<◌, Bool, true, false, ◌||◌, cond, List, [], ◌∷◌, ◌++◌, length, get_or, set, Some, None, is_some, refl, sym, ap, ◌∙◌, subst, arith, append_assoc, append-nil, take, drop}
+use Rattle.std.proofs.Common.{◌≡◌, ℕ, zero, suc, ◌+◌, ◌<◌, Bool, true, false, ◌||◌, cond, List, [], ◌∷◌, ◌++◌, length, get_or, set, remove, Some, None, is_some, refl, sym, ap, ◌∙◌, subst, arith, append_assoc, append-nil, take, drop}
 use Rattle.std.specs.List.{list_any, position, position_from, flat_map}
-use Rattle.std.proofs.lemmas.Bool.{false≢true}
+use Rattle.std.proofs.lemmas.Bool.{false≢true, or_parts, cond-true, cond-false}
 use Rattle.std.proofs.lemmas.Iterator.Adapters.{position_from-zero}
 use Rattle.std.proofs.lemmas.List.Quantifiers.{position-Some}
 use Rattle.std.proofs.lemmas.Grind.{common_steps}
 use Rattle.std.proofs.lemmas.List.{map-append, take_more, at_drop_more}
 use Rattle.std.proofs.lemmas.List.Concat.{flat_map-append}
-use Rattle.link_traits.specs.Contents.{File, names}
-use Rattle.memory_outside.specs.Memory.{is_named, with_file, bytes_of}
-
--- whether one of the files has this name
-abbrev pub has_name : List ℕ → List File → Bool
-has_name name files = list_any (is_named name) files
+use Rattle.std.proofs.lemmas.List.Folds.{list_any-append}
+use Rattle.link_traits.specs.Contents.{File, names, is_named, has_name, bytes_of}
+use Rattle.link_traits.specs.Folder.{without, with_name}
+use Rattle.memory_outside.specs.Memory.{with_file}
 
 -- there is a place where the test passes exactly where it passes at all
 is_some-position_from : {X : Type 0} (p : X → Bool) (i : ℕ) (xs : List X) → is_some (position_from p i xs) ≡ list_any p xs
@@ -132,6 +130,117 @@ names-more {X} f parts i part h here =
     let More : X → Type 0 = λ p. names (flat_map f (take i parts)) ++ names (f p) ≡ names (flat_map f (take (i + 1) parts)) in
     let name : File → List ℕ = λ file. file.name in
     subst More (sym here) (sym (ap (λ (l : List X). names (flat_map f l)) (take_more parts i part h) ∙ (ap names (flat_map-append f (take i parts) (get_or parts i part ∷ [])) ∙ (map-append name (flat_map f (take i parts)) (f (get_or parts i part) ++ []) ∙ ap (λ (l : List File). names (flat_map f (take i parts)) ++ names l) (append-nil (f (get_or parts i part)))))))
+
+-- a test passes in the parts put together where it does in one of them
+pub list_any-parts : {X Y : Type 0} (p : X → Bool) (f : Y → List X) (parts : List Y) → list_any p (flat_map f parts) ≡ list_any (λ y. list_any p (f y)) parts
+list_any-parts p f [] = refl
+list_any-parts p f (part ∷ parts) = list_any-append p (f part) (flat_map f parts) ∙ ap (λ b. list_any p (f part) || b) (list_any-parts p f parts)
+
+-- the list, of which the first element that passes the test is replaced by these
+abbrev pub edited : {X : Type 0} → (X → Bool) → (X → List X) → List X → List X
+edited p g [] = []
+edited p g (x ∷ xs) = cond (p x) (g x ++ xs) (x ∷ edited p g xs)
+
+module _ {X : Type 0} (p : X → Bool) (g : X → List X) where
+  -- nothing passes, and nothing is replaced
+  pub edited-none : (xs : List X) → list_any p xs ≡ false → edited p g xs ≡ xs
+  edited-none [] h = refl
+  edited-none (x ∷ xs) h =
+      let apart = or_parts (p x) (list_any p xs) h in
+      cond-false (p x) (g x ++ xs) (x ∷ edited p g xs) apart.0 ∙ ap (λ (l : List X). x ∷ l) (edited-none xs apart.1)
+
+  pub edited-front : (xs ys : List X) → list_any p xs ≡ true → edited p g (xs ++ ys) ≡ edited p g xs ++ ys
+  edited-front [] ys h = absurd (false≢true h)
+  edited-front (x ∷ xs) ys h =
+      elim (p x) as (λ b. (b || list_any p xs) ≡ true → cond b (g x ++ (xs ++ ys)) (x ∷ edited p g (xs ++ ys)) ≡ cond b (g x ++ xs) (x ∷ edited p g xs) ++ ys) [
+        | true ↦ λ _. sym (append_assoc (g x) xs ys)
+        | false ↦ λ e. ap (λ (l : List X). x ∷ l) (edited-front xs ys e)
+      ] h
+
+  pub edited-back : (xs ys : List X) → list_any p xs ≡ false → edited p g (xs ++ ys) ≡ xs ++ edited p g ys
+  edited-back [] ys h = refl
+  edited-back (x ∷ xs) ys h =
+      let apart = or_parts (p x) (list_any p xs) h in
+      cond-false (p x) (g x ++ (xs ++ ys)) (x ∷ edited p g (xs ++ ys)) apart.0 ∙ ap (λ (l : List X). x ∷ l) (edited-back xs ys apart.1)
+
+  -- the first that passes, at its place
+  pub edited-at : (xs : List X) (i : ℕ) (d : X) → i < length xs → p (get_or xs i d) ≡ true → ((k : ℕ) → k < i → p (get_or xs k d) ≡ false) → edited p g xs ≡ take i xs ++ (g (get_or xs i d) ++ drop (suc i) xs)
+  edited-at [] i d h here before = absurd (omega arith)
+  edited-at (x ∷ xs) zero d h here before = cond-true (p x) (g x ++ xs) (x ∷ edited p g xs) here
+  edited-at (x ∷ xs) (suc i) d h here before =
+      cond-false (p x) (g x ++ xs) (x ∷ edited p g xs) (before 0 (omega arith)) ∙ ap (λ (l : List X). x ∷ l) (edited-at xs i d (omega arith) here (λ k l. before (suc k) (omega arith)))
+
+  -- a list of parts: the first part that has such an element is edited
+  pub edited-part : {Y : Type 0} (f : Y → List X) (parts : List Y) (i : ℕ) (d new : Y) → i < length parts → f new ≡ edited p g (f (get_or parts i d)) → list_any p (f (get_or parts i d)) ≡ true → ((k : ℕ) → k < i → list_any p (f (get_or parts k d)) ≡ false) → flat_map f (set parts i new) ≡ edited p g (flat_map f parts)
+  edited-part f [] i d new h put here before = absurd (omega arith)
+  edited-part f (part ∷ parts) zero d new h put here before =
+      ap (λ (l : List X). l ++ flat_map f parts) put ∙ sym (edited-front (f part) (flat_map f parts) here)
+  edited-part f (part ∷ parts) (suc i) d new h put here before =
+      ap (λ (l : List X). f part ++ l) (edited-part f parts i d new (omega arith) put here (λ k l. before (suc k) (omega arith))) ∙ sym (edited-back (f part) (flat_map f parts) (before 0 (omega arith)))
+
+  pub position-edited-part : {Y : Type 0} (f : Y → List X) (parts : List Y) (i : ℕ) (old new : Y) → position (λ y. list_any p (f y)) parts ≡ Some i → old ≡ get_or parts i old → f new ≡ edited p g (f old) → flat_map f (set parts i new) ≡ edited p g (flat_map f parts)
+  position-edited-part {Y} f parts i old new h here put =
+      let Put : Y → Type 0 = λ y. f new ≡ edited p g (f y) in
+      let at = position-Some (λ y. list_any p (f y)) parts i old h in edited-part f parts i old new at.0 (subst Put here put) at.1 at.2
+
+  pub position-edited-none : {Y : Type 0} (f : Y → List X) (parts : List Y) → position (λ y. list_any p (f y)) parts ≡ None → flat_map f parts ≡ edited p g (flat_map f parts)
+  position-edited-none f parts h = sym (edited-none (flat_map f parts) (list_any-parts p f parts ∙ position-None (λ y. list_any p (f y)) parts h))
+
+-- the files without the first of this name
+abbrev pub taken_out : File → List File
+taken_out file = []
+
+pub without-edited : (name : List ℕ) (files : List File) → edited (is_named name) taken_out files ≡ without name files
+without-edited name [] = refl
+without-edited name (file ∷ files) = ap (λ (l : List File). cond (is_named name file) files (file ∷ l)) (without-edited name files)
+
+-- the file under another name
+abbrev pub renamed : List ℕ → File → List File
+renamed to file = record file { name = to } ∷ []
+
+pub with_name-edited : (from to : List ℕ) (files : List File) → edited (is_named from) (renamed to) files ≡ with_name from to files
+with_name-edited from to [] = refl
+with_name-edited from to (file ∷ files) = ap (λ (l : List File). cond (is_named from file) (record file { name = to } ∷ files) (file ∷ l)) (with_name-edited from to files)
+
+-- a file that was removed at its place is taken out
+pub position-without : (files : List File) (name : List ℕ) (i : ℕ) (d : File) → position (is_named name) files ≡ Some i → remove files i ≡ without name files
+position-without files name i d h =
+    let at = position-Some (is_named name) files i d h in sym (edited-at (is_named name) taken_out files i d at.0 at.1 at.2) ∙ without-edited name files
+
+pub position-without-none : (files : List File) (name : List ℕ) → position (is_named name) files ≡ None → files ≡ without name files
+position-without-none files name h = sym (edited-none (is_named name) taken_out files (position-None (is_named name) files h)) ∙ without-edited name files
+
+-- a file that got another name at its place
+pub position-with_name : (files : List File) (from to : List ℕ) (i : ℕ) (old : File) → position (is_named from) files ≡ Some i → old ≡ get_or files i old → set files i (record old { name = to }) ≡ with_name from to files
+position-with_name files from to i old h here =
+    let at = position-Some (is_named from) files i old h in
+    let Is : File → Type 0 = λ file. set files i (record old { name = to }) ≡ take i files ++ (renamed to file ++ drop (suc i) files) in
+    subst Is here (set-parts files i (record old { name = to }) at.0) ∙ sym (edited-at (is_named from) (renamed to) files i old at.0 at.1 at.2) ∙ with_name-edited from to files
+  where
+    set-parts : (xs : List File) (i : ℕ) (x : File) → i < length xs → set xs i x ≡ take i xs ++ (x ∷ drop (suc i) xs)
+    set-parts [] i x h = absurd (omega arith)
+    set-parts (y ∷ ys) zero x h = refl
+    set-parts (y ∷ ys) (suc i) x h = ap (λ (l : List File). y ∷ l) (set-parts ys i x (omega arith))
+
+pub position-with_name-none : (files : List File) (from to : List ℕ) → position (is_named from) files ≡ None → files ≡ with_name from to files
+position-with_name-none files from to h = sym (edited-none (is_named from) (renamed to) files (position-None (is_named from) files h)) ∙ with_name-edited from to files
+
+-- the file of a name is taken out of all where it is taken out of the first part that has it
+module _ {X : Type 0} (f : X → List File) (parts : List X) (name : List ℕ) where
+  pub position-without-part : (i : ℕ) (old new : X) → position (λ p. has_name name (f p)) parts ≡ Some i → old ≡ get_or parts i old → f new ≡ without name (f old) → flat_map f (set parts i new) ≡ without name (flat_map f parts)
+  position-without-part i old new h here put =
+      position-edited-part (is_named name) taken_out f parts i old new h here (put ∙ sym (without-edited name (f old))) ∙ without-edited name (flat_map f parts)
+
+  pub position-without-nowhere : position (λ p. has_name name (f p)) parts ≡ None → flat_map f parts ≡ without name (flat_map f parts)
+  position-without-nowhere h = position-edited-none (is_named name) taken_out f parts h ∙ without-edited name (flat_map f parts)
+
+  -- and it gets another name among all where it does in that part
+  pub position-with_name-part : (to : List ℕ) (i : ℕ) (old new : X) → position (λ p. has_name name (f p)) parts ≡ Some i → old ≡ get_or parts i old → f new ≡ with_name name to (f old) → flat_map f (set parts i new) ≡ with_name name to (flat_map f parts)
+  position-with_name-part to i old new h here put =
+      position-edited-part (is_named name) (renamed to) f parts i old new h here (put ∙ sym (with_name-edited name to (f old))) ∙ with_name-edited name to (flat_map f parts)
+
+  pub position-with_name-nowhere : (to : List ℕ) → position (λ p. has_name name (f p)) parts ≡ None → flat_map f parts ≡ with_name name to (flat_map f parts)
+  position-with_name-nowhere to h = position-edited-none (is_named name) (renamed to) f parts h ∙ with_name-edited name to (flat_map f parts)
 
 -- a list that was written over from its front to its end is what was written
 pub written_over-whole : {X : Type 0} (old new : List X) → length new ≡ length old → take (length old) (new ++ drop (length new) old) ≡ new

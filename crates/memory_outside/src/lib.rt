@@ -3,6 +3,7 @@
 #![tactic(auto)]
 
 mod list_clock;
+mod memory_file;
 mod memory_folder;
 mod memory_shelf;
 mod memory_sink;

@@ -1,4 +1,4 @@
-// A clock that gives the times of a list.
+//! A clock that gives the times of a list.
 ghost use Rattle.std.specs.Prelude.{◌≡◌, ◌<◌, ◌+◌, ◌-◌, ◌^◌, ◌==◌, ◌||◌, ◌++◌, ◌∷◌, [], All, IfOk, is_ok, is_err, if◌then◌else◌};
 ghost use Rattle.memory_outside.specs.Moments.{ClockState, time_at, given_of};
 ghost use Rattle.memory_outside.specs.Script.{script_of, faults_of, is_listed, Counted};

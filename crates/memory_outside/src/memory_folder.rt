@@ -1,13 +1,15 @@
-// A folder in memory.
-ghost use Rattle.std.specs.Prelude.{◌≡◌, ◌≤◌, ◌<◌, ◌+◌, ◌-◌, ◌++◌, [], Some, None, true, false, is_ok, if◌then◌else◌, map, position, IsPermutation, IsSorted, vec_len, vec_capacity, IfOk, OnOk, OnErr, MatchOption};
+//! A folder in memory.
+ghost use Rattle.std.specs.Prelude.{◌≡◌, ◌≤◌, ◌<◌, ◌+◌, ◌-◌, ◌++◌, ◌↔◌, [], Some, None, true, false, is_ok, if◌then◌else◌, map, position, IsPermutation, IsSorted, Contains, vec_len, vec_capacity, string_bytes, IfOk, OnOk, OnErr, MatchOption};
 ghost use Rattle.std.specs.Cmp.Lexicographic.{slice_cmp};
 ghost use Rattle.std.specs.Ordering.{nat_cmp};
 ghost use Rattle.std.specs.List.{list_any, flat_map};
-ghost use Rattle.link_traits.specs.Contents.{File, names, IsListing};
-ghost use Rattle.memory_outside.specs.Memory.{FolderState, ShelfState, is_named, with_file, bytes_of};
+ghost use Rattle.link_traits.specs.Contents.{File, names, IsListing, AreApart, HaveOwnNames, is_named, bytes_of, has_name};
+ghost use Rattle.link_traits.specs.Folder.{without, with_name, files_after_rename};
+ghost use Rattle.memory_outside.specs.Memory.{FolderState, ShelfState, HoldsOwnNames, with_file, new_shelf};
 ghost use Rattle.memory_outside.specs.Script.{script_of, Counts, at_most_count, faults_of, number_of, is_listed, after_call, sum_of_counts, Counted};
 
-use crate::memory_shelf::{MemoryFile, MemoryShelf};
+use crate::memory_file::MemoryFile;
+use crate::memory_shelf::{MemoryShelf, file_in, has_name};
 use crate::script::Script;
 use link_traits::{Folder, FolderFailed, ListFault};
 use plain_data::{Name, NameList, NumberList, OutOfMemory};
@@ -30,20 +32,21 @@ pub struct MemoryFolder {
 impl Model for MemoryFolder {
     ghost use Rattle.std.specs.Prelude.{◌≤◌, ◌+◌, vec_len, vec_capacity};
     ghost use Rattle.std.specs.List.{flat_map};
+    ghost use Rattle.link_traits.specs.Contents.{HaveOwnNames};
     ghost use Rattle.memory_outside.specs.Memory.{FolderState};
 
     ghost Value = { FolderState };
 
     ghost view = { λ f. record { contents = flat_map (λ part. part.items) f.parts.items; path = f.path; out = f.out; shelves = f.shelves; script = f.script } };
 
-    ghost invariant = { λ f. vec_len f.parts + f.out ≤ vec_capacity f.parts };
+    ghost invariant = { λ f. (vec_len f.parts + f.out ≤ vec_capacity f.parts) × HaveOwnNames (flat_map (λ part. part.items) f.parts.items) };
 }
 
 impl MemoryFolder {
     /// An empty folder. `faults` numbers the calls that are to fail as `object * 1000000 + call`, with
-    /// calls from 0: object 0 is the folder, whose calls are `list` and `shelf`, and object i its i-th
-    /// shelf, from 1, whose calls are `create`, `append` and `finish`. Want of memory fails a call
-    /// too. Both are counted, and the count stops at 2^64 - 1. Takes no memory.
+    /// calls from 0: object 0 is the folder, whose calls are `list`, `rename` and `shelf`, and object i
+    /// its i-th shelf, from 1, whose calls are `create`, `append`, `finish`, `open` and `read`. Want of
+    /// memory fails a call too. Both are counted, and the count stops at 2^64 - 1. Takes no memory.
     pub fn new(alloc: Global, faults: NumberList) -> MemoryFolder
         ensures { result ≡ record { contents = []; path = None; out = 0; shelves = 0; script = script_of faults 0 } }
     {
@@ -104,32 +107,117 @@ impl MemoryFolder {
         Ok(found)
     }
 
-    // A shelf, for which room is kept.
+    /// Whether one of the files that the shelf has made has the name of a file that is here. Takes no
+    /// memory.
+    pub fn has_any_of(&self, shelf: &MemoryShelf) -> bool
+        ensures { result ≡ false → AreApart shelf.now.made self.now.contents }
+    {
+        has_any(self.parts.as_slice(), shelf)
+    }
+
+    // A shelf that sees all files, for which room is kept.
     fn begin(&mut self) -> Result<MemoryShelf, OutOfMemory>
-        ensures shelf { IfOk result (λ shelf. shelf ≡ record { made = []; begun = None; script = script_of self.old.script.failing (number_of self.new.shelves 0) }) }
+        ensures shelf { IfOk result (λ shelf. shelf ≡ new_shelf self.old.contents (script_of self.old.script.failing (number_of self.new.shelves 0))) }
         ensures ok { OnOk result (self.new ≡ record self.old { out = self.old.out + 1; shelves = at_most_count (self.old.shelves + 1) }) }
         ensures err { OnErr result (self.new ≡ self.old) }
+        ensures own_names { HaveOwnNames self.new.contents }
     {
         let object = self.shelves.saturating_add(1);
         let script = self.script.of(object, 0)?;
+        let seen = copied_files(self.alloc, self.parts.as_slice())?;
         let room = self.out.saturating_add(1);
         self.parts.reserve(room)?;
         self.out += 1;
         self.shelves = object;
-        Ok(MemoryShelf::new(self.alloc, script))
+        Ok(MemoryShelf::new(self.alloc, seen, script))
+    }
+
+    // Gives a file another name.
+    fn change_name(&mut self, from: &str, to: &str) -> Result<(), OutOfMemory>
+        ensures ok { OnOk result (self.new ≡ record self.old { contents = files_after_rename from.now to.now self.old.contents }) }
+        ensures err { OnErr result (self.new ≡ self.old) }
+        ensures own_names { HaveOwnNames self.new.contents }
+    {
+        let name = String::from_str(self.alloc, to)?;
+        if from != to {
+            take_out(&mut self.parts, to);
+            put_under(&mut self.parts, from, name);
+        }
+        Ok(())
     }
 }
 
-// The bytes of the first file of this name.
-fn file_in<'a>(files: &'a [MemoryFile], name: &str) -> Option<&'a [u8]>
-    ensures { MatchOption result (bytes_of files.now name.now ≡ None) (λ bytes. bytes_of files.now name.now ≡ Some bytes.now) }
+// Whether one of the files has the name of one that the shelf has made.
+fn has_any(parts: &[Vec<MemoryFile>], shelf: &MemoryShelf) -> bool
+    ensures { result ≡ list_any (λ part. list_any (λ file. has_name file.name shelf.now.made) part.items) parts.now }
+{
+    parts.iter().any(|part| shelf.has_any_of(part.as_slice()))
+}
+
+// A copy of all files.
+fn copied_files(alloc: Global, parts: &[Vec<MemoryFile>]) -> Result<Vec<MemoryFile>, OutOfMemory>
+    ensures { IfOk result (λ files. files.items ≡ flat_map (λ part. part.items) parts.now) }
+{
+    let mut copies = Vec::new(alloc);
+    'parts: for part in parts {
+        files_into(alloc, part.as_slice(), &mut copies)?;
+    }
+    Ok(copies)
+}
+
+// Copies each file.
+fn files_into(
+    alloc: Global,
+    files: &[MemoryFile],
+    copies: &mut Vec<MemoryFile>,
+) -> Result<(), OutOfMemory>
+    ensures { OnOk result (copies.new.items ≡ copies.old.items ++ files.now) }
 {
     'files: for file in files {
-        if file.name() == name {
-            return Some(file.bytes());
-        }
+        copies.push(file.copy(alloc)?)?;
     }
-    None
+    Ok(())
+}
+
+// Takes the file of this name out, if there is one.
+fn take_out(parts: &mut Vec<Vec<MemoryFile>>, name: &str)
+    ensures files { flat_map (λ part. part.items) parts.new.items ≡ without name.now (flat_map (λ part. part.items) parts.old.items) }
+    ensures len { vec_len parts.new ≡ vec_len parts.old }
+    ensures capacity { vec_capacity parts.new ≡ vec_capacity parts.old }
+{
+    if let Some(part) = part_of(parts.as_slice(), name) {
+        take_out_of(&mut parts[part], name);
+    }
+}
+
+// Takes the first file of this name out of a part.
+fn take_out_of(files: &mut Vec<MemoryFile>, name: &str)
+    ensures { files.new.items ≡ without name.now files.old.items }
+{
+    if let Some(place) = place_of(files.as_slice(), name) {
+        drop(files.remove(place));
+    }
+}
+
+// Puts the file of the one name under the other.
+fn put_under(parts: &mut Vec<Vec<MemoryFile>>, from: &str, to: String)
+    ensures files { flat_map (λ part. part.items) parts.new.items ≡ with_name from.now (string_bytes to) (flat_map (λ part. part.items) parts.old.items) }
+    ensures len { vec_len parts.new ≡ vec_len parts.old }
+    ensures capacity { vec_capacity parts.new ≡ vec_capacity parts.old }
+{
+    if let Some(part) = part_of(parts.as_slice(), from) {
+        put_under_in(&mut parts[part], from, to);
+    }
+}
+
+// Puts the first file of the one name in a part under the other.
+fn put_under_in(files: &mut Vec<MemoryFile>, from: &str, to: String)
+    ensures { files.new.items ≡ with_name from.now (string_bytes to) files.old.items }
+{
+    if let Some(place) = place_of(files.as_slice(), from) {
+        let file = &mut files[place];
+        file.set_name(to);
+    }
 }
 
 // The place of the first file of this name.
@@ -139,16 +227,9 @@ fn place_of(files: &[MemoryFile], name: &str) -> Option<usize>
     files.iter().position(|file| file.name() == name)
 }
 
-// Whether one of the files has this name.
-fn has_name(files: &[MemoryFile], name: &str) -> bool
-    ensures { result ≡ list_any (is_named name.now) files.now }
-{
-    files.iter().any(|file| file.name() == name)
-}
-
 // The first part with a file of this name.
 fn part_of(parts: &[Vec<MemoryFile>], name: &str) -> Option<usize>
-    ensures { result ≡ position (λ part. list_any (is_named name.now) part.items) parts.now }
+    ensures { result ≡ position (λ part. has_name name.now part.items) parts.now }
 {
     parts
         .iter()
@@ -157,7 +238,7 @@ fn part_of(parts: &[Vec<MemoryFile>], name: &str) -> Option<usize>
 
 // Puts a file in the place of the one of its name.
 fn put_in(files: &mut Vec<MemoryFile>, file: MemoryFile)
-    requires { list_any (is_named file.name) files.old.items ≡ true }
+    requires { has_name file.name files.old.items ≡ true }
     ensures { files.new.items ≡ with_file files.old.items file }
 {
     if let Some(place) = place_of(files.as_slice(), file.name()) {
@@ -167,7 +248,7 @@ fn put_in(files: &mut Vec<MemoryFile>, file: MemoryFile)
 
 // Puts a file in the place of the one of its name, in the first part that has it.
 fn put_among(parts: &mut Vec<Vec<MemoryFile>>, part: usize, file: MemoryFile)
-    requires { position (λ part. list_any (is_named file.name) part.items) parts.old.items ≡ Some part }
+    requires { position (λ part. has_name file.name part.items) parts.old.items ≡ Some part }
     ensures files { flat_map (λ part. part.items) parts.new.items ≡ with_file (flat_map (λ part. part.items) parts.old.items) file }
     ensures len { vec_len parts.new ≡ vec_len parts.old }
     ensures capacity { vec_capacity parts.new ≡ vec_capacity parts.old }
@@ -181,7 +262,7 @@ fn put_after(
     parts: &mut Vec<Vec<MemoryFile>>,
     file: MemoryFile,
 ) -> Result<(), OutOfMemory>
-    requires { position (λ part. list_any (is_named file.name) part.items) parts.old.items ≡ None }
+    requires { position (λ part. has_name file.name part.items) parts.old.items ≡ None }
     ensures ok { OnOk result (flat_map (λ part. part.items) parts.new.items ≡ with_file (flat_map (λ part. part.items) parts.old.items) file) }
     ensures err { OnErr result (parts.new.items ≡ parts.old.items) }
 {
@@ -214,7 +295,7 @@ fn names_into(alloc: Global, files: &[MemoryFile], found: &mut NameList) -> Resu
 impl Folder for MemoryFolder {
     type Shelf = MemoryShelf;
 
-    ghost tells = { λ _. Unit {0} };
+    ghost tells = { λ folder. HaveOwnNames folder.contents };
 
     ghost contents = { λ folder. folder.contents };
 
@@ -223,6 +304,8 @@ impl Folder for MemoryFolder {
     ghost out = { λ folder. folder.out };
 
     ghost faults = { λ folder. faults_of folder.script };
+
+    ghost own_names = { λ _ own_names. own_names };
 
     fn aim(&mut self, path: &str) -> Result<(), OutOfMemory>
         ensures { self.new ≡ record self.old { path = if is_ok result then Some path.now else self.old.path } }
@@ -247,8 +330,24 @@ impl Folder for MemoryFolder {
         }
     }
 
+    fn rename(&mut self, from: &str, to: &str) -> Result<(), FolderFailed>
+        ensures tells { HaveOwnNames self.old.contents ↔ HaveOwnNames self.new.contents }
+        ensures folder { self.new ≡ record self.old { contents = if is_ok result then files_after_rename from.now to.now self.old.contents else self.old.contents; script = self.new.script } }
+        ensures counts { Counted self.old.script false result self.new.script }
+    {
+        if self.script.fails() {
+            return Err(FolderFailed);
+        }
+        if self.change_name(from, to).is_err() {
+            self.script.lack_memory();
+            return Err(FolderFailed);
+        }
+        Ok(())
+    }
+
     fn shelf(&mut self) -> Result<MemoryShelf, FolderFailed>
-        ensures shelf { IfOk result (λ shelf. shelf ≡ record { made = []; begun = None; script = script_of self.old.script.failing (number_of self.new.shelves 0) }) }
+        ensures tells { HaveOwnNames self.old.contents × HaveOwnNames self.new.contents }
+        ensures shelf { IfOk result (λ shelf. shelf ≡ new_shelf self.old.contents (script_of self.old.script.failing (number_of self.new.shelves 0))) }
         ensures folder { self.new ≡ record self.old { out = if is_ok result then self.old.out + 1 else self.old.out; shelves = if is_ok result then at_most_count (self.old.shelves + 1) else self.old.shelves; script = self.new.script } }
         ensures counts { Counted self.old.script false result self.new.script }
     {
@@ -266,7 +365,9 @@ impl Folder for MemoryFolder {
 
     fn take_back(&mut self, shelf: MemoryShelf)
         requires out { 0 < self.old.out }
+        requires new_names { HaveOwnNames self.old.contents → AreApart shelf.made self.old.contents }
 
+        ensures tells { HaveOwnNames self.old.contents ↔ HaveOwnNames self.new.contents }
         ensures folder { self.new ≡ record self.old { contents = self.old.contents ++ shelf.made; out = self.old.out - 1; script = sum_of_counts self.old.script shelf.script } }
     {
         let (made, script) = shelf.close();

@@ -1,98 +1,108 @@
-// A shelf of a folder in memory.
-ghost use Rattle.std.specs.Prelude.{◌≡◌, ◌<◌, ◌≤◌, ◌+◌, ◌^◌, ◌++◌, ◌∷◌, [], Some, None, true, false, length, is_some, is_ok, nat_le, if◌then◌else◌, OnOk, OnErr, IfOk};
-ghost use Rattle.link_traits.specs.Contents.{File};
-ghost use Rattle.memory_outside.specs.Memory.{ShelfState, begun_of, with_bytes, shelf_told};
+//! A shelf of a folder in memory.
+ghost use Rattle.std.specs.Prelude.{◌≡◌, ◌<◌, ◌≤◌, ◌+◌, ◌^◌, ◌++◌, ◌∷◌, ◌↔◌, [], Some, None, true, false, length, is_some, is_ok, nat_le, if◌then◌else◌, MatchOption, OnOk, OnErr, IfOk};
+ghost use Rattle.std.specs.List.{list_any};
+ghost use Rattle.link_traits.specs.Contents.{File, HaveOwnNames, has_name, bytes_of};
+ghost use Rattle.memory_outside.specs.Memory.{ShelfState, HoldsOwnNames, TakesFront, begun_of, with_bytes, opened_in, opened_of, place_after, shelf_told, reading_of, new_shelf};
 ghost use Rattle.memory_outside.specs.Script.{Counts, faults_of, Counted};
 
+use crate::memory_file::{FileReader, MemoryFile};
 use crate::script::Script;
 use link_traits::{FolderFailed, Shelf};
 use plain_data::OutOfMemory;
 use std::alloc::Global;
 use std::marker::Model;
 
-// A file in memory.
-#[derive(Drop)]
-pub(crate) struct MemoryFile {
-    name: String,
-    bytes: Vec<u8>,
+// The bytes of the first file of this name.
+pub(crate) fn file_in<'a>(files: &'a [MemoryFile], name: &str) -> Option<&'a [u8]>
+    ensures { MatchOption result (bytes_of files.now name.now ≡ None) (λ bytes. bytes_of files.now name.now ≡ Some bytes.now) }
+{
+    'files: for file in files {
+        if file.name() == name {
+            return Some(file.bytes());
+        }
+    }
+    None
 }
 
-impl Model for MemoryFile {
-    ghost use Rattle.std.specs.Prelude.{string_bytes};
-    ghost use Rattle.link_traits.specs.Contents.{File};
-
-    ghost Value = { File };
-
-    ghost view = { λ f. record { name = string_bytes f.name; bytes = f.bytes.items } };
+// Whether one of the files has this name.
+pub(crate) fn has_name(files: &[MemoryFile], name: &str) -> bool
+    ensures { result ≡ has_name name.now files.now }
+{
+    files.iter().any(|file| file.name() == name)
 }
 
-impl MemoryFile {
-    // A copy of name and bytes.
-    pub(crate) fn of(alloc: Global, name: &str, bytes: &[u8]) -> Result<MemoryFile, OutOfMemory>
-        ensures { IfOk result (λ made. made ≡ record { name = name.now; bytes = bytes.now }) }
-    {
-        Ok(MemoryFile {
-            name: String::from_str(alloc, name)?,
-            bytes: bytes.to_vec(alloc)?,
-        })
-    }
-
-    pub(crate) fn name(&self) -> &str
-        ensures { result.now ≡ self.now.name }
-    {
-        self.name.as_str()
-    }
-
-    pub(crate) fn bytes(&self) -> &[u8]
-        ensures { result.now ≡ self.now.bytes }
-    {
-        self.bytes.as_slice()
-    }
-
-    // Adds bytes at the end.
-    fn extend(&mut self, bytes: &[u8]) -> Result<(), OutOfMemory>
-        ensures ok { OnOk result (self.new ≡ with_bytes self.old bytes.now) }
-        ensures err { OnErr result (self.new ≡ self.old) }
-    {
-        self.bytes.extend_from_slice(bytes)?;
-        Ok(())
+// The file of this name from its start, if there is one.
+fn reader_in(
+    alloc: Global,
+    files: &[MemoryFile],
+    name: &str,
+) -> Result<Option<FileReader>, OutOfMemory>
+    ensures { IfOk result (λ reader. reader ≡ opened_in files.now name.now) }
+{
+    match file_in(files, name) {
+        Some(bytes) => Ok(Some(FileReader::of(alloc, bytes)?)),
+        None => Ok(None),
     }
 }
 
-/// What the files of a folder in memory are made by.
+/// What the files of a folder in memory are made by, and read.
 #[derive(Drop)]
 pub struct MemoryShelf {
     alloc: Global,
+    seen: Vec<MemoryFile>,
+    opened: Option<FileReader>,
     made: Vec<MemoryFile>,
     begun: Option<MemoryFile>,
     script: Script,
 }
 
 impl Model for MemoryShelf {
-    ghost use Rattle.memory_outside.specs.Memory.{ShelfState};
+    ghost use Rattle.memory_outside.specs.Memory.{ShelfState, HoldsOwnNames};
 
     ghost Value = { ShelfState };
 
-    ghost view = { λ s. record { made = s.made.items; begun = s.begun; script = s.script } };
+    ghost view = { λ s. record { seen = s.seen.items; opened = s.opened; made = s.made.items; begun = s.begun; script = s.script } };
+
+    ghost invariant = { λ s. HoldsOwnNames (record { seen = s.seen.items; opened = s.opened; made = s.made.items; begun = s.begun; script = s.script }) };
 }
 
 impl MemoryShelf {
-    // A shelf without files.
-    pub(crate) fn new(alloc: Global, script: Script) -> MemoryShelf
-        ensures { result ≡ record { made = []; begun = None; script = script } }
+    // A shelf that sees these files.
+    pub(crate) fn new(alloc: Global, seen: Vec<MemoryFile>, script: Script) -> MemoryShelf
+        requires { HaveOwnNames seen.items }
+        ensures { result ≡ new_shelf seen.items script }
     {
         MemoryShelf {
             alloc,
+            seen,
+            opened: None,
             made: Vec::new(alloc),
             begun: None,
             script,
         }
     }
 
+    // Whether a file of this name was made.
+    fn has_made(&self, name: &str) -> bool
+        ensures { result ≡ has_name name.now self.now.made }
+    {
+        has_name(self.made.as_slice(), name)
+    }
+
+    // Whether a file of one of these names was made.
+    pub(crate) fn has_any_of(&self, files: &[MemoryFile]) -> bool
+        ensures { result ≡ list_any (λ file. has_name file.name self.now.made) files.now }
+    {
+        files.iter().any(|file| self.has_made(file.name()))
+    }
+
     // Begins an empty file of this name.
     fn begin(&mut self, name: &str) -> Result<(), OutOfMemory>
+        requires none_begun { is_some self.old.begun ≡ false }
+        requires new_name { has_name name.now self.old.made ≡ false }
         ensures ok { OnOk result (self.new ≡ record self.old { begun = Some (record { name = name.now; bytes = [] }) }) }
         ensures err { OnErr result (self.new ≡ self.old) }
+        ensures own_names { HoldsOwnNames self.new }
     {
         let file = MemoryFile::of(self.alloc, name, &[])?;
         self.begun = Some(file);
@@ -114,6 +124,7 @@ impl MemoryShelf {
         requires { is_some self.old.begun ≡ true }
         ensures ok { OnOk result (self.new ≡ record self.old { begun = Some (with_bytes (begun_of self.old.begun) bytes.now) }) }
         ensures err { OnErr result (self.new ≡ self.old) }
+        ensures own_names { HoldsOwnNames self.new }
     {
         match &mut self.begun {
             Some(file) => file.extend(bytes),
@@ -126,6 +137,7 @@ impl MemoryShelf {
         requires { is_some self.old.begun ≡ true }
         ensures ok { OnOk result (self.new ≡ record self.old { made = self.old.made ++ begun_of self.old.begun ∷ []; begun = None }) }
         ensures err { OnErr result (self.new ≡ self.old) }
+        ensures own_names { HoldsOwnNames self.new }
     {
         self.made.reserve(1)?;
         if let Some(file) = self.begun.take() {
@@ -134,13 +146,54 @@ impl MemoryShelf {
         Ok(())
     }
 
+    // Opens the file of this name, if there is one.
+    fn find(&mut self, name: &str) -> Result<bool, OutOfMemory>
+        ensures found { IfOk result (λ found. found ≡ is_some (bytes_of self.old.seen name.now)) }
+        ensures ok { OnOk result (self.new ≡ record self.old { opened = opened_in self.old.seen name.now }) }
+        ensures err { OnErr result (self.new ≡ self.old) }
+        ensures own_names { HoldsOwnNames self.new }
+    {
+        let opened = reader_in(self.alloc, self.seen.as_slice(), name)?;
+        let found = opened.is_some();
+        self.opened = opened;
+        Ok(found)
+    }
+
+    // How many bytes were read of the open file once a read has filled so much room.
+    fn place_after(&self, room: usize) -> usize
+        ensures { result ≡ place_after (opened_of self.now.opened) room }
+    {
+        match &self.opened {
+            Some(file) => file.place_after(room),
+            None => 0,
+        }
+    }
+
+    // Copies the next bytes of the open file to the front of the buffer.
+    fn take_front(&mut self, buffer: &mut [u8]) -> usize
+        requires { is_some self.old.opened ≡ true }
+        ensures front { TakesFront (opened_of self.old.opened) buffer.new result (opened_of self.new.opened) }
+        ensures len { length buffer.new ≡ length buffer.old }
+        ensures opened { is_some self.new.opened ≡ true }
+        ensures others { self.new ≡ record self.old { opened = self.new.opened } }
+        ensures own_names { HoldsOwnNames self.new }
+    {
+        match &mut self.opened {
+            Some(file) => file.take_front(buffer),
+            None => 0,
+        }
+    }
+
     // The files that were made, and the counts.
     pub(crate) fn close(self) -> (Vec<MemoryFile>, Script)
         ensures made { result.0.items ≡ self.made }
         ensures script { result.1 ≡ self.script }
+        ensures own_names { HaveOwnNames self.made }
     {
         let MemoryShelf {
             alloc: _,
+            seen: _,
+            opened: _,
             made,
             begun: _,
             script,
@@ -150,7 +203,7 @@ impl MemoryShelf {
 }
 
 impl Shelf for MemoryShelf {
-    ghost tells = { λ _. Unit {0} };
+    ghost tells = { HoldsOwnNames };
 
     ghost told = { shelf_told };
 
@@ -158,15 +211,24 @@ impl Shelf for MemoryShelf {
 
     ghost size = { λ shelf. length (begun_of shelf.begun).bytes };
 
+    ghost reading = { reading_of };
+
     ghost faults = { λ shelf. faults_of shelf.script };
+
+    ghost own_names = { λ _ own_names. record { seen = own_names.seen; made = own_names.made } };
 
     fn create(&mut self, name: &str) -> Result<(), FolderFailed>
         requires none_begun { is_some self.old.begun ≡ false }
 
+        ensures tells { HoldsOwnNames self.old ↔ HoldsOwnNames self.new }
         ensures shelf { self.new ≡ record self.old { begun = if is_ok result then Some (record { name = name.now; bytes = [] }) else None; script = self.new.script } }
-        ensures counts { Counted self.old.script false result self.new.script }
+        ensures counts { Counted self.old.script (has_name name.now self.old.made) result self.new.script }
     {
         if self.script.fails() {
+            return Err(FolderFailed);
+        }
+        if self.has_made(name) {
+            self.script.fail();
             return Err(FolderFailed);
         }
         if self.begin(name).is_err() {
@@ -179,6 +241,7 @@ impl Shelf for MemoryShelf {
     fn append(&mut self, bytes: &[u8]) -> Result<(), FolderFailed>
         requires begun { is_some self.old.begun ≡ true }
 
+        ensures tells { HoldsOwnNames self.old ↔ HoldsOwnNames self.new }
         ensures shelf { self.new ≡ record self.old { begun = if is_ok result then Some (with_bytes (begun_of self.old.begun) bytes.now) else self.old.begun; script = self.new.script } }
         ensures counts { Counted self.old.script (nat_le (2 ^ 62) (length (begun_of self.old.begun).bytes + length bytes.now)) result self.new.script }
     {
@@ -199,6 +262,7 @@ impl Shelf for MemoryShelf {
     fn finish(&mut self) -> Result<(), FolderFailed>
         requires begun { is_some self.old.begun ≡ true }
 
+        ensures tells { HoldsOwnNames self.old ↔ HoldsOwnNames self.new }
         ensures shelf { self.new ≡ record self.old { made = if is_ok result then self.old.made ++ begun_of self.old.begun ∷ [] else self.old.made; begun = if is_ok result then None else self.old.begun; script = self.new.script } }
         ensures counts { Counted self.old.script false result self.new.script }
     {
@@ -210,5 +274,44 @@ impl Shelf for MemoryShelf {
             return Err(FolderFailed);
         }
         Ok(())
+    }
+
+    fn open(&mut self, name: &str) -> Result<bool, FolderFailed>
+        ensures tells { HoldsOwnNames self.old ↔ HoldsOwnNames self.new }
+        ensures found { IfOk result (λ found. found ≡ is_some (bytes_of self.old.seen name.now)) }
+        ensures shelf { self.new ≡ record self.old { opened = if is_ok result then opened_in self.old.seen name.now else self.old.opened; script = self.new.script } }
+        ensures counts { Counted self.old.script false result self.new.script }
+    {
+        if self.script.fails() {
+            return Err(FolderFailed);
+        }
+        match self.find(name) {
+            Ok(found) => Ok(found),
+            Err(OutOfMemory) => {
+                self.script.lack_memory();
+                Err(FolderFailed)
+            }
+        }
+    }
+
+    fn read(&mut self, buffer: &mut [u8]) -> Result<usize, FolderFailed>
+        requires opened { is_some (reading_of self.old) ≡ true }
+        requires room { 0 < length buffer.old }
+
+        ensures tells { HoldsOwnNames self.old ↔ HoldsOwnNames self.new }
+        ensures ok { IfOk result (λ count. TakesFront (opened_of self.old.opened) buffer.new count (opened_of self.new.opened)) }
+        ensures len { length buffer.new ≡ length buffer.old }
+        ensures opened { is_some self.new.opened ≡ true }
+        ensures others { self.new ≡ record self.old { opened = if is_ok result then self.new.opened else self.old.opened; script = self.new.script } }
+        ensures counts { Counted self.old.script (nat_le (2 ^ 62) (place_after (opened_of self.old.opened) (length buffer.old))) result self.new.script }
+    {
+        if self.script.fails() {
+            return Err(FolderFailed);
+        }
+        if self.place_after(buffer.len()) >= 1 << 62 {
+            self.script.fail();
+            return Err(FolderFailed);
+        }
+        Ok(self.take_front(buffer))
     }
 }

@@ -1,4 +1,4 @@
-// A sink in memory.
+//! A sink in memory.
 ghost use Rattle.std.specs.Prelude.{◌≡◌, ◌++◌, [], false, is_ok, if◌then◌else◌};
 ghost use Rattle.memory_outside.specs.Moments.{SinkState};
 ghost use Rattle.memory_outside.specs.Script.{script_of, faults_of, Counted};

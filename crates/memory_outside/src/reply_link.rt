@@ -1,7 +1,7 @@
-// A link with a list of replies.
+//! A link with a list of replies.
 ghost use Rattle.std.specs.Prelude.{◌≡◌, ◌≤◌, ◌<◌, ◌+◌, ◌++◌, ◌∷◌, [], take, drop, length, OnOk, OnErr, IfOk, false, min, ◌||◌, is_ok, is_err, if◌then◌else◌};
-ghost use Rattle.link_traits.specs.Link.{Receives, IsWithin, told_at_start, told_after_send, told_after_failure, first, others};
-ghost use Rattle.memory_outside.specs.Replies.{LinkState, Returned, at_most, has_nothing};
+ghost use Rattle.link_traits.specs.Link.{Receives, IsWithin, told_at_start, told_after_send, first, others};
+ghost use Rattle.memory_outside.specs.Replies.{LinkState, Returned, at_most, has_nothing, told_after_answer};
 ghost use Rattle.memory_outside.specs.Script.{Counts, faults_of, is_listed, Counted};
 
 use crate::script::Script;
@@ -68,7 +68,8 @@ impl ReplyLink {
         cut: u32,
         script: Script,
     ) -> Result<ReplyLink, OutOfMemory>
-        ensures { IfOk result (λ made. made ≡ record { told = told_at_start replies; number = number; cut = cut; script = script }) }
+        ensures { IfOk result (λ made. made ≡
+            record { told = told_at_start replies; number = number; cut = cut; script = script }) }
     {
         let mut heard = Vec::new(alloc);
         let next = hear(&mut heard, &replies, 0)?;
@@ -145,10 +146,15 @@ impl Link for ReplyLink {
 
     ghost origins_join = { λ _ _ _ _ _. tt };
 
+    ghost honest_alike = { λ _ _ _ honest. absurd honest };
+
     ghost sound = { λ _ honest. absurd honest };
 
     fn send(&mut self, message: &[u8]) -> Result<(), LinkFailed>
-        ensures link { self.new ≡ record self.old { told = if is_ok result then told_after_send self.old.told message.now else told_after_failure self.old.told; script = self.new.script } }
+        ensures link { self.new ≡ record self.old {
+          script = self.new.script;
+          told = told_after_answer (is_ok result) self.old.told message.now;
+        } }
         ensures counts { Counted self.old.script self.old.told.failed result self.new.script }
     {
         let listed = self.script.fails();
@@ -169,7 +175,10 @@ impl Link for ReplyLink {
     }
 
     fn send_beside(&mut self, _holder: &ReplyLink, message: &[u8]) -> Result<(), LinkFailed>
-        ensures link { self.new ≡ record self.old { told = if is_ok result then told_after_send self.old.told message.now else told_after_failure self.old.told; script = self.new.script } }
+        ensures link { self.new ≡ record self.old {
+          script = self.new.script;
+          told = told_after_answer (is_ok result) self.old.told message.now;
+        } }
         ensures counts { Counted self.old.script self.old.told.failed result self.new.script }
     {
         self.send(message)
@@ -180,7 +189,8 @@ impl Link for ReplyLink {
 
         ensures within { IfOk result (λ count. IsWithin buffer.old count) }
         ensures received { Receives self.old.told buffer.new result self.new.told }
-        ensures count { IfOk result (λ count. count ≡ at_most self.old.cut (min (length self.old.told.waiting) (length buffer.old))) }
+        ensures count { IfOk result (λ count. count ≡
+            at_most self.old.cut (min (length self.old.told.waiting) (length buffer.old))) }
         ensures link { self.new ≡ record self.old { told = self.new.told; script = self.new.script } }
         ensures counts { Counted self.old.script (has_nothing self.old.told) result self.new.script }
         ensures fails { is_err result ≡ (is_listed self.old.script || has_nothing self.old.told) }

@@ -1,9 +1,8 @@
-// A site with a list of conversations.
-ghost use Rattle.std.specs.Prelude.{◌≡◌, ◌+◌, ◌-◌, ◌^◌, ◌≤◌, ◌<◌, ◌++◌, ◌∷◌, [], true, false, Some, None, drop, is_ok, if◌then◌else◌, OnOk, OnErr, IfOk, MatchOption};
-ghost use Rattle.link_traits.specs.Link.{told_at_start};
+//! A site with a list of conversations.
+ghost use Rattle.std.specs.Prelude.{◌≡◌, ◌+◌, ◌-◌, ◌^◌, ◌≤◌, ◌<◌, ◌++◌, ◌∷◌, [], true, false, Some, None, drop, is_ok, if◌then◌else◌, OnOk, OnErr, IfOk, IfSome};
 ghost use Rattle.link_traits.specs.Site.{Aim, SiteTold, next_of};
-ghost use Rattle.memory_outside.specs.Replies.{SiteState, LinkState, Returned, site_told, has_returned, messages_of};
-ghost use Rattle.memory_outside.specs.Script.{script_of, Counts, at_most_count, faults_of, number_of, sum_of_counts, Counted};
+ghost use Rattle.memory_outside.specs.Replies.{SiteState, LinkState, Returned, counts_at_connect, has_returned, link_begun, links_after, messages_of, new_site, next_link, site_after_connect, site_after_return, site_told, with_one_more};
+ghost use Rattle.memory_outside.specs.Script.{Counts, Counted, faults_of};
 
 use crate::reply_link::{Conversation, MessageList, ReplyLink, ReturnedLink};
 use crate::script::Script;
@@ -54,7 +53,7 @@ impl Model for ReplySite {
 
     ghost Value = { SiteState };
 
-    ghost view = { λ s. record { conversations = drop s.used s.conversations; returned = s.returned.items; aim = s.target; out = s.out; alone = s.alone; next = s.next; cut = s.cut; script = s.script } };
+    ghost view = { λ s. record { conversations = drop s.used s.conversations; returned = s.returned.items; aim = s.target; links = record { out = s.out; sole = s.alone }; next = s.next; cut = s.cut; script = s.script } };
 
     ghost invariant = { λ s. vec_len s.returned + s.out ≤ vec_capacity s.returned };
 }
@@ -74,7 +73,7 @@ impl ReplySite {
         faults: NumberList,
         cut: u32,
     ) -> ReplySite
-        ensures { result ≡ record { conversations = conversations; returned = []; aim = None; out = 0; alone = false; next = 0; cut = cut; script = script_of faults 0 } }
+        ensures { result ≡ new_site conversations faults cut }
     {
         ReplySite {
             alloc,
@@ -108,7 +107,8 @@ impl ReplySite {
 
     // The messages of the link of this number, if it came back.
     fn messages(&self, link: u32) -> Option<&MessageList>
-        ensures { MatchOption result (messages_of self.now.returned link ≡ None) (λ sent. messages_of self.now.returned link ≡ Some sent.now) }
+        ensures none { result ≡ None → messages_of self.now.returned link ≡ None }
+        ensures some { IfSome result (λ sent. messages_of self.now.returned link ≡ Some sent.now) }
     {
         let number = u64::from(link);
         'links: for link in self.returned.as_slice() {
@@ -135,8 +135,8 @@ impl ReplySite {
 
     // Makes a link of this number and conversation.
     fn begin(&mut self, number: u64, replies: Conversation) -> Result<ReplyLink, OutOfMemory>
-        ensures link { IfOk result (λ link. link ≡ record { told = told_at_start replies; number = number; cut = self.old.cut; script = script_of self.old.script.failing (number_of number 1) }) }
-        ensures ok { OnOk result (self.new ≡ record self.old { out = self.old.out + 1 }) }
+        ensures link { IfOk result (λ link. link ≡ link_begun self.old number replies) }
+        ensures ok { OnOk result (self.new ≡ record self.old { links = with_one_more self.old.links }) }
         ensures err { OnErr result (self.new ≡ self.old) }
     {
         let script = self.script.of(number, 1)?;
@@ -149,9 +149,10 @@ impl ReplySite {
 
     // Makes the next link.
     fn next_link(&mut self) -> Result<ReplyLink, LinkFailed>
-        ensures link { IfOk result (λ link. link ≡ record { told = told_at_start (next_of self.old.conversations); number = self.old.next; cut = self.old.cut; script = script_of self.old.script.failing (number_of self.old.next 1) }) }
-        ensures site { self.new ≡ record self.old { conversations = drop 1 self.old.conversations; out = if is_ok result then self.old.out + 1 else self.old.out; next = at_most_count (self.old.next + 1); script = self.new.script } }
-        ensures counts { Counted (record self.old.script { call = number_of self.old.next 0 }) false result self.new.script }
+        ensures link { IfOk result (λ link. link ≡ next_link self.old) }
+        ensures site { self.new ≡ site_after_connect self.old
+            (if is_ok result then with_one_more self.old.links else self.old.links) self.new.script }
+        ensures counts { Counted (counts_at_connect self.old) false result self.new.script }
     {
         let number = self.next;
         self.next = number.saturating_add(1);
@@ -187,9 +188,7 @@ impl Site for ReplySite {
 
     ghost aim_of = { λ site. site.aim };
 
-    ghost out = { λ site. site.out };
-
-    ghost sole_out = { λ site. site.alone };
+    ghost links = { λ site. site.links };
 
     ghost faults = { λ site. faults_of site.script };
 
@@ -200,7 +199,8 @@ impl Site for ReplySite {
     ghost settled = { λ _ honest. absurd honest };
 
     fn aim(&mut self, host: &str, port: u16) -> Result<(), OutOfMemory>
-        ensures { self.new ≡ record self.old { aim = if is_ok result then Some (record { host = host.now; port = port }) else self.old.aim } }
+        ensures ok { OnOk result (self.new ≡ record self.old { aim = Some (record { host = host.now; port = port }) }) }
+        ensures err { OnErr result (self.new ≡ self.old) }
     {
         let host = Name::of(self.alloc, host)?;
         self.target = Some(Target { host, port });
@@ -208,20 +208,22 @@ impl Site for ReplySite {
     }
 
     fn connect(&mut self) -> Result<ReplyLink, LinkFailed>
-        ensures link { IfOk result (λ link. link ≡ record { told = told_at_start (next_of self.old.conversations); number = self.old.next; cut = self.old.cut; script = script_of self.old.script.failing (number_of self.old.next 1) }) }
-        ensures site { self.new ≡ record self.old { conversations = drop 1 self.old.conversations; out = if is_ok result then self.old.out + 1 else self.old.out; alone = false; next = at_most_count (self.old.next + 1); script = self.new.script } }
-        ensures counts { Counted (record self.old.script { call = number_of self.old.next 0 }) false result self.new.script }
+        ensures link { IfOk result (λ link. link ≡ next_link self.old) }
+        ensures site { self.new ≡ site_after_connect self.old
+            (links_after (is_ok result) false self.old.links) self.new.script }
+        ensures counts { Counted (counts_at_connect self.old) false result self.new.script }
     {
         self.alone = false;
         self.next_link()
     }
 
     fn connect_sole(&mut self) -> Result<ReplyLink, LinkFailed>
-        requires none_out { self.old.out ≡ 0 }
+        requires none_out { self.old.links.out ≡ 0 }
 
-        ensures link { IfOk result (λ link. link ≡ record { told = told_at_start (next_of self.old.conversations); number = self.old.next; cut = self.old.cut; script = script_of self.old.script.failing (number_of self.old.next 1) }) }
-        ensures site { self.new ≡ record self.old { conversations = drop 1 self.old.conversations; out = if is_ok result then 1 else 0; alone = is_ok result; next = at_most_count (self.old.next + 1); script = self.new.script } }
-        ensures counts { Counted (record self.old.script { call = number_of self.old.next 0 }) false result self.new.script }
+        ensures link { IfOk result (λ link. link ≡ next_link self.old) }
+        ensures site { self.new ≡ site_after_connect self.old
+            (links_after (is_ok result) true self.old.links) self.new.script }
+        ensures counts { Counted (counts_at_connect self.old) false result self.new.script }
     {
         self.alone = false;
         let link = self.next_link()?;
@@ -230,9 +232,9 @@ impl Site for ReplySite {
     }
 
     fn give_back(&mut self, link: ReplyLink)
-        requires out { 0 < self.old.out }
+        requires out { 0 < self.old.links.out }
 
-        ensures site { self.new ≡ record self.old { returned = self.old.returned ++ record { number = link.number; sent = link.told.sent } ∷ []; out = self.old.out - 1; alone = false; script = sum_of_counts self.old.script link.script } }
+        ensures site { self.new ≡ site_after_return self.old link }
     {
         let (returned, script) = link.close();
         self.out -= 1;

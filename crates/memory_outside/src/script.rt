@@ -1,4 +1,4 @@
-// The calls that are to fail, and the counts of those that did.
+//! The calls that are to fail, and the counts of those that did.
 ghost use Rattle.std.specs.Prelude.{◌≡◌, ◌==◌, ◌+◌, IfOk, if◌then◌else◌};
 ghost use Rattle.std.specs.List.{list_any};
 ghost use Rattle.memory_outside.specs.Script.{script_of, Counts, at_most_count, number_of, is_listed, after_fault, after_want, after_call, sum_of_counts};

@@ -1,7 +1,7 @@
-// Cases of a folder in memory, and of the shelf of it that is out.
+//! Cases of a folder in memory, and of the shelf of it that is out.
 
 use crate::shelf_cases::ShelfCases;
-use crate::words::{bytes_of, first_word, numbers_of, or_nothing, said, spelled};
+use crate::words::{bytes_of, first_word, numbers_of, or_nothing, said, said_of, spelled};
 use link_traits::{Folder, FolderFailed, ListFault};
 use memory_outside::MemoryFolder;
 use plain_data::{NameList, NumberList, OutOfMemory};
@@ -45,6 +45,7 @@ impl FolderCases {
             "put" => self.put(words),
             "file" => self.file(words),
             "list" => self.list(),
+            "rename" => self.rename(words),
             "shelf" => self.shelf(),
             "take_back" => self.take_back(),
             _ => said(self.alloc, "no call"),
@@ -96,6 +97,11 @@ impl FolderCases {
         }
     }
 
+    fn rename(&mut self, words: &str) -> Result<String, OutOfMemory> {
+        let (from, to) = first_word(words);
+        said_of(self.alloc, self.folder.rename(from, to).is_ok(), "renamed")
+    }
+
     fn shelf(&mut self) -> Result<String, OutOfMemory> {
         if self.shelf.is_some() {
             return said(self.alloc, "a shelf is out");
@@ -113,6 +119,10 @@ impl FolderCases {
         let Some(shelf) = self.shelf.take() else {
             return said(self.alloc, "no shelf");
         };
+        if self.folder.has_any_of(shelf.shelf()) {
+            self.shelf = Some(shelf);
+            return said(self.alloc, "a name is there");
+        }
         self.folder.take_back(shelf.close());
         said(self.alloc, "taken back")
     }

@@ -1,4 +1,4 @@
-// One object of each kind.
+//! One object of each kind.
 
 use crate::folder_cases::FolderCases;
 use crate::report_cases::{ClockCases, SinkCases};

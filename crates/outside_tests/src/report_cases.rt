@@ -1,4 +1,4 @@
-// Cases of a sink and of a clock in memory.
+//! Cases of a sink and of a clock in memory.
 ghost use Rattle.std.specs.Prelude.{◌<◌, All, IfOk};
 
 use crate::words::{bytes_of, first_word, numbers_of, said, said_of, spelled};

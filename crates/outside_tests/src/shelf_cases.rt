@@ -1,18 +1,19 @@
-// Cases of a shelf in memory.
+//! Cases of a shelf in memory.
 
-use crate::words::{bytes_of, said, said_of};
-use link_traits::Shelf;
+use crate::words::{bytes_of, said, said_of, spelled};
+use link_traits::{FolderFailed, Shelf};
 use memory_outside::MemoryShelf;
 use plain_data::OutOfMemory;
 use std::alloc::Global;
 use std::marker::Model;
 
-/// A shelf, and whether a file is begun on it.
+/// A shelf, and whether a file is begun on it, and one open.
 #[derive(Drop)]
 pub struct ShelfCases {
     alloc: Global,
     shelf: MemoryShelf,
     is_begun: bool,
+    is_open: bool,
 }
 
 impl Model for ShelfCases {
@@ -23,29 +24,41 @@ impl Model for ShelfCases {
 
     ghost view = { λ s. s.shelf };
 
-    ghost invariant = { λ s. is_some s.shelf.begun ≡ s.is_begun };
+    ghost invariant = { λ s. (is_some s.shelf.begun ≡ s.is_begun) × (is_some s.shelf.opened ≡ s.is_open) };
 }
 
 impl ShelfCases {
     ghost use Rattle.std.specs.Prelude.{◌≡◌, is_some, false};
 
-    /// A shelf on which nothing is begun.
+    /// A shelf on which nothing is begun, and nothing open.
     pub fn of(alloc: Global, shelf: MemoryShelf) -> ShelfCases
-        requires { is_some shelf.begun ≡ false }
+        requires none_begun { is_some shelf.begun ≡ false }
+        requires none_open { is_some shelf.opened ≡ false }
     {
         ShelfCases {
             alloc,
             shelf,
             is_begun: false,
+            is_open: false,
         }
     }
 
     /// The shelf.
-    pub fn close(self) -> MemoryShelf {
+    pub fn shelf(&self) -> &MemoryShelf
+        ensures { result.now ≡ self.now }
+    {
+        &self.shelf
+    }
+
+    /// The shelf, which comes back.
+    pub fn close(self) -> MemoryShelf
+        ensures { result ≡ self }
+    {
         let ShelfCases {
             alloc: _,
             shelf,
             is_begun: _,
+            is_open: _,
         } = self;
         shelf
     }
@@ -56,6 +69,8 @@ impl ShelfCases {
             ("create", false) => self.create(words),
             ("append", true) => self.append(words),
             ("finish", true) => self.finish(),
+            ("open", _) => self.open(words),
+            ("read", _) => self.read(words),
             _ => said(self.alloc, "no call"),
         }
     }
@@ -82,5 +97,27 @@ impl ShelfCases {
         }
         self.is_begun = self.shelf.finish().is_err();
         said_of(self.alloc, !self.is_begun, "made")
+    }
+
+    fn open(&mut self, name: &str) -> Result<String, OutOfMemory> {
+        match self.shelf.open(name) {
+            Ok(found) => {
+                self.is_open = found;
+                said(self.alloc, if found { "open" } else { "no file" })
+            }
+            Err(FolderFailed) => said(self.alloc, "failed"),
+        }
+    }
+
+    fn read(&mut self, room: &str) -> Result<String, OutOfMemory> {
+        let mut buffer = vec![in self.alloc; 0; room.parse().unwrap_or(0)]?;
+        if !self.is_open || buffer.is_empty() {
+            return said(self.alloc, "none is open");
+        }
+        match self.shelf.read(buffer.as_mut_slice()) {
+            Ok(0) => said(self.alloc, "the end"),
+            Ok(count) => spelled(self.alloc, &buffer[..count]),
+            Err(FolderFailed) => said(self.alloc, "failed"),
+        }
     }
 }

@@ -1,4 +1,4 @@
-// Cases of a site in memory, and of the link of it that is out.
+//! Cases of a site in memory, and of the link of it that is out.
 
 use crate::words::{bytes_of, first_word, numbers_of, or_nothing, said, said_of, spelled};
 use link_traits::{Link, LinkFailed, Site};
@@ -24,7 +24,7 @@ impl Model for SiteCases {
 
     ghost view = { λ s. s.site };
 
-    ghost invariant = { λ s. s.site.out ≡ (if is_some s.link then 1 else 0) };
+    ghost invariant = { λ s. s.site.links.out ≡ (if is_some s.link then 1 else 0) };
 }
 
 impl SiteCases {

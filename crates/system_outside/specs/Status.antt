@@ -1,13 +1,20 @@
 -- What the adapters over the real outside tell of themselves.
-use Rattle.std.specs.Prelude.{ℕ, Bool, List, Option}
-use Rattle.link_traits.specs.Site.{Aim}
+use Rattle.std.specs.Prelude.{ℕ, ◌+◌, ◌-◌, ◌^◌, min, Bool, false, List, Option, None}
+use Rattle.link_traits.specs.Site.{Aim, Links}
 
--- where a site aims, how many links are out and whether that is one that is alone, and how often it has failed
+-- where a site aims, which links are out, and how often it has failed
 pub record SiteStatus : Type 0 where
   pub aim : Option Aim
-  pub out : ℕ
-  pub alone : Bool
+  pub links : Links
   pub faults : ℕ
+
+-- the site has failed once more
+abbrev pub with_fault : SiteStatus → SiteStatus
+with_fault site = record site { faults = min (site.faults + 1) (2 ^ 64 - 1) }
+
+-- one link more is out
+abbrev pub one_link_more : Links → Links
+one_link_more links = record links { out = links.out + 1 }
 
 -- whether a link has failed, and how often; and where its connection's bytes are known, what it has written and what is
 -- still to be received
@@ -23,13 +30,19 @@ pub record FolderStatus : Type 0 where
   pub out : ℕ
   pub faults : ℕ
 
--- whether a file is begun, how many bytes it has, and how often the shelf has failed; and where the begun file's bytes are
--- known, what it holds
+-- whether a file is begun and how many bytes it has, how many bytes were read of the open file, if one is open, and how often
+-- the shelf has failed; and where their bytes are known, what the begun file holds and what is left of the open one
 pub record ShelfStatus : Type 0 where
   pub begun : Bool
   pub size : ℕ
+  pub reading : Option ℕ
   pub faults : ℕ
   pub written : Option (List ℕ)
+  pub unread : Option (List ℕ)
+
+-- a shelf on which nothing was done yet
+abbrev pub new_shelf : ShelfStatus
+new_shelf = record { begun = false; size = 0; reading = None; faults = 0; written = None; unread = None }
 
 -- how often a sink has failed, and what its writer holds, where that is known
 pub record SinkStatus : Type 0 where

@@ -1,18 +1,30 @@
-// A folder that is a directory of the disk.
+//! A folder that is a directory of the disk.
 ghost use Rattle.std.specs.Prelude.{◌≡◌, ◌≤◌, ◌+◌, ◌-◌, ◌^◌, [], None, false, min, IfOk, IfSome, IsSorted, OnOk};
 ghost use Rattle.std.specs.Ordering.{nat_cmp};
 ghost use Rattle.std.specs.Cmp.Lexicographic.{slice_cmp};
 ghost use Rattle.link_traits.specs.Cause.{Rose};
+ghost use Rattle.system_outside.specs.Status.{new_shelf};
 
 use crate::disk_shelf::DiskShelf;
 use link_traits::{Folder, FolderFailed, ListFault};
 use plain_data::{Name, NameList, OutOfMemory};
+use std::fs::{DirBuilder, OpenFile};
 use std::io::ErrorKind;
 use std::marker::Model;
+use std::os::unix::fs::DirBuilderExt;
 use std::rt::Files;
 use std::{fs, io};
 
-/// A directory of the disk. It doesn't tell the files in it.
+// A directory is listed and entered by its owner alone, for its files hold all data.
+const DIRECTORY_MODE: u32 = 0o700;
+
+/// A directory of the disk. It doesn't tell the files in it. Where it isn't there, `list` and `shelf`
+/// make it, with the mode 0700, and bring its entry to the disk; one that is there keeps its mode.
+///
+/// `rename` brings the directory to the disk before it renames, and after it. So where it answers Ok,
+/// what was made by then and the new name outlive a power cut. Where the directory doesn't get to the
+/// disk after the rename, the call fails, and the file has its new name: whether it has it after a
+/// power cut isn't known.
 #[derive(Drop)]
 pub struct DiskFolder<R> {
     rt: R,
@@ -61,10 +73,33 @@ impl<R> DiskFolder<R> {
     }
 }
 
+// Brings the entry of a directory to the disk: what its parent holds.
+fn keep_entry_of<R: Files + AllocGlobal>(rt: &R, path: &str) -> io::Result<()> {
+    let parent = format!(in rt.alloc(); "{path}/..")?;
+    fs::open(rt, parent)?.sync_all()
+}
+
+// Gives a file of a directory another name, and brings that to the disk.
+fn rename_in<R: Files + AllocGlobal>(
+    rt: &R,
+    directory: &str,
+    from: &str,
+    to: &str,
+) -> io::Result<()> {
+    let from = format!(in rt.alloc(); "{directory}/{from}")?;
+    let to = format!(in rt.alloc(); "{directory}/{to}")?;
+    let entries = fs::open(rt, directory)?;
+    entries.sync_all()?;
+    fs::rename(rt, from, to)?;
+    entries.sync_all()
+}
+
 // Makes the directory where it isn't there.
-fn make_directory<R: Files>(rt: &R, path: &str) -> io::Result<()> {
-    match fs::create_dir(rt, path) {
-        Ok(()) => Ok(()),
+fn make_directory<R: Files + AllocGlobal>(rt: &R, path: &str) -> io::Result<()> {
+    let mut builder = DirBuilder::new();
+    builder.mode(DIRECTORY_MODE);
+    match builder.create(rt, path) {
+        Ok(()) => keep_entry_of(rt, path),
         Err(error) => {
             if fs::metadata(rt, path)?.is_dir() {
                 Ok(())
@@ -110,9 +145,15 @@ impl<R: Files + AllocGlobal + Clone + Drop> DiskFolder<R> {
         Ok(names)
     }
 
+    // Gives a file of the directory another name.
+    fn change_name(&self, from: &str, to: &str) -> Option<()> {
+        let path = self.path.as_ref()?;
+        rename_in(&self.rt, path.as_str(), from, to).ok()
+    }
+
     // A shelf for the directory.
     fn new_shelf(&self) -> Option<DiskShelf<R>>
-        ensures { IfSome result (λ shelf. shelf ≡ record { begun = false; size = 0; faults = 0; written = None }) }
+        ensures { IfSome result (λ shelf. shelf ≡ new_shelf) }
     {
         let path = self.path.as_ref()?;
         make_directory(&self.rt, path.as_str()).ok()?;
@@ -136,6 +177,8 @@ where
 
     ghost faults = { λ folder. folder.faults };
 
+    ghost own_names = { λ _ tells. absurd tells };
+
     fn aim(&mut self, path: &str) -> Result<(), OutOfMemory> {
         self.path = Some(String::from_str(self.rt.alloc(), path)?);
         Ok(())
@@ -153,6 +196,13 @@ where
             self.fail();
         }
         found
+    }
+
+    fn rename(&mut self, from: &str, to: &str) -> Result<(), FolderFailed> {
+        if self.change_name(from, to).is_none() {
+            return Err(self.fail());
+        }
+        Ok(())
     }
 
     fn shelf(&mut self) -> Result<DiskShelf<R>, FolderFailed> {

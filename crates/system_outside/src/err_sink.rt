@@ -1,4 +1,4 @@
-// Reports on standard error.
+//! Reports on standard error.
 ghost use Rattle.std.specs.Prelude.{◌≡◌, [], ℕ, take, OnOk, OnErr};
 ghost use Rattle.std.specs.Io.KnownBytes.{Appends};
 ghost use Rattle.link_traits.specs.Cause.{HasCause};

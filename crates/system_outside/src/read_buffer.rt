@@ -1,4 +1,4 @@
-// The bytes that a link has received and its callers haven't taken yet.
+//! The bytes that a link has received and its callers haven't taken yet.
 ghost use Rattle.std.specs.Prelude.{◌≡◌, ◌<◌, ◌++◌, ◌↔◌, [], length, take, IsTrue, IfOk, OnOk, OnErr};
 ghost use Rattle.std.specs.Io.KnownBytes.{Consumes};
 ghost use Rattle.link_traits.specs.Link.{IsWithin};

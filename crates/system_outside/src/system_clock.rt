@@ -1,4 +1,4 @@
-// The time of day as the system tells it.
+//! The time of day as the system tells it.
 ghost use Rattle.std.specs.Prelude.{◌≡◌, ◌<◌, [], IfSome};
 
 use link_traits::{Clock, ClockFailed};

@@ -1,4 +1,4 @@
-// A link over a TCP connection.
+//! A link over a TCP connection.
 ghost use Rattle.std.specs.Prelude.{◌≡◌, ◌<◌, ◌≤◌, ◌+◌, ◌-◌, ◌^◌, [], length, take, true, false, min, IfOk, OnOk, OnErr};
 ghost use Rattle.std.specs.Io.KnownBytes.{Appends, Consumes};
 ghost use Rattle.link_traits.specs.Cause.{HasCause};
@@ -91,6 +91,8 @@ impl<S: Read + Write + Drop> Link for TcpLink<S> {
     ghost origin_turns = { λ _ _ _. tt };
 
     ghost origins_join = { λ _ _ _ _ _. tt };
+
+    ghost honest_alike = { λ _ _ _ honest. absurd honest };
 
     ghost sound = { λ _ honest. absurd honest };
 

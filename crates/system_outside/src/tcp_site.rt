@@ -1,5 +1,6 @@
-// A server that is reached over TCP.
-ghost use Rattle.std.specs.Prelude.{◌≡◌, ◌≤◌, ◌+◌, ◌-◌, ◌^◌, [], None, false, min, IfOk, IfSome, OnOk, OnErr};
+//! A server that is reached over TCP.
+ghost use Rattle.std.specs.Prelude.{◌≡◌, ◌≤◌, ◌+◌, ◌-◌, ◌^◌, [], None, false, IfOk, IfSome, OnOk, OnErr};
+ghost use Rattle.system_outside.specs.Status.{one_link_more, with_fault};
 
 use crate::tcp_link::TcpLink;
 use link_traits::{Link, LinkFailed, Site};
@@ -39,13 +40,13 @@ impl<R> Model for TcpSite<R> {
 
     ghost Value = { SiteStatus };
 
-    ghost view = { λ s. record { aim = s.aim; out = s.out; alone = s.alone; faults = s.faults } };
+    ghost view = { λ s. record { aim = s.aim; links = record { out = s.out; sole = s.alone }; faults = s.faults } };
 }
 
 impl<R> TcpSite<R> {
     /// A site that is still to be aimed. Takes no memory.
     pub fn new(rt: R) -> TcpSite<R>
-        ensures { result ≡ record { aim = None; out = 0; alone = false; faults = 0 } }
+        ensures { result ≡ record { aim = None; links = record { out = 0; sole = false }; faults = 0 } }
     {
         TcpSite {
             rt,
@@ -65,7 +66,7 @@ impl<R> TcpSite<R> {
 
     // Counts a failure.
     fn fail(&mut self) -> LinkFailed
-        ensures failed { self.new ≡ record self.old { faults = min (self.old.faults + 1) (2 ^ 64 - 1) } }
+        ensures failed { self.new ≡ with_fault self.old }
         ensures later { self.old.faults ≤ self.new.faults }
     {
         self.faults = self.faults.saturating_add(1);
@@ -87,8 +88,8 @@ impl<R: Net + AllocGlobal> TcpSite<R> {
     // The next link, which is out from now on.
     fn next_link(&mut self) -> Result<TcpLink<R::Stream>, LinkFailed>
         ensures link { IfOk result (λ link. (link.failed ≡ false) × (link.faults ≡ 0)) }
-        ensures out { OnOk result (self.new ≡ record self.old { out = self.old.out + 1 }) }
-        ensures same_out { OnErr result (self.new ≡ record self.old { faults = min (self.old.faults + 1) (2 ^ 64 - 1) }) }
+        ensures out { OnOk result (self.new ≡ record self.old { links = one_link_more self.old.links }) }
+        ensures same_out { OnErr result (self.new ≡ with_fault self.old) }
         ensures later { self.old.faults ≤ self.new.faults }
     {
         let Some(out) = self.out.checked_add(1) else {
@@ -122,9 +123,7 @@ where
 
     ghost aim_of = { λ site. site.aim };
 
-    ghost out = { λ site. site.out };
-
-    ghost sole_out = { λ site. site.alone };
+    ghost links = { λ site. site.links };
 
     ghost faults = { λ site. site.faults };
 

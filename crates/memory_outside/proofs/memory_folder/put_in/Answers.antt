@@ -1,7 +1,7 @@
 use Rattle.std.proofs.Common.{◌≡◌, Some, None, sym, ◌∙◌, rules}
 use Rattle.std.specs.List.{position}
 use Rattle.std.proofs.lemmas.Bool.{false≢true}
-use Rattle.memory_outside.specs.Memory.{is_named}
+use Rattle.link_traits.specs.Contents.{is_named}
 use Rattle.memory_outside.proofs.Parts.{position-with_file, position-None}
 use Rattle.memory_outside.proofs.memory_folder.put_in.Goals as goal
 

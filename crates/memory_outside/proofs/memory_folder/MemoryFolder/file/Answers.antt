@@ -1,5 +1,5 @@
 use Rattle.std.proofs.Common.{◌≡◌, Some, None, ◌∙◌, rules}
-use Rattle.memory_outside.specs.Memory.{bytes_of}
+use Rattle.link_traits.specs.Contents.{bytes_of}
 use Rattle.memory_outside.proofs.Parts.{bytes_of-found, bytes_of-passed}
 use Rattle.memory_outside.proofs.memory_folder.MemoryFolder.file.Goals as goal
 

@@ -1,6 +1,6 @@
 use Rattle.std.proofs.Common.{◌≡◌, drop}
 use Rattle.std.specs.List.{flat_map}
-use Rattle.memory_outside.specs.Memory.{bytes_of}
+use Rattle.link_traits.specs.Contents.{bytes_of}
 use Rattle.memory_outside.proofs.memory_folder.MemoryFolder.file.Given as goal
 
 abbrev pub invariant-parts : goal.invariant-parts
