@@ -90,7 +90,7 @@ login_answer way state payload messages new here (accepted logging says new_is) 
 login_answer way state payload messages new here (switched message phase asks lean messages_are new_is) = record {
   message = message;
   messages_are = messages_are;
-  taken = λ is. absurd (apart 0 254 message (done_begins message is) (asks_begins state.terms.plugin message asks) (λ e. omega arith));
+  taken = λ is. absurd (apart 0 254 message (done_begins message is) (asks_begins state.terms.server.plugin message asks) (λ e. omega arith));
   asked = λ found is. ap (λ (s : State). s.phase) new_is;
 }
 login_answer way state payload messages new here (turned_away refusal logging unwilling says new_is) = record {

@@ -1,5 +1,7 @@
 -- What an honest server's answers leave of a link's state: its phase is the same after a statement, and its terms always.
 use Rattle.std.proofs.Common.{◌≡◌, ℕ, List, [], ◌∷◌, refl, ◌∙◌, ap, inl, inr, Option, Some, None}
+use Rattle.honest_server.specs.Insert.{Insertion}
+use Rattle.server_data.specs.declared.data.Need.{Need}
 use Rattle.honest_server.specs.Effect.{Commits, EndsOpen, Creates, GoesInto, InsertsInto, Effect}
 use Rattle.honest_server.specs.Exchange.{Replies, accepted, switched, turned_away, quits, served, unknown, ignored, Exchanges}
 use Rattle.honest_server.specs.Link.{ServedLink, Breaks}
@@ -10,9 +12,8 @@ use Rattle.wire_forms.specs.declared.refusal.Refusal.{Refusal}
 use Rattle.server_data.specs.declared.data.Change.{Change}
 use Rattle.server_data.specs.declared.data.Change.TheVariants.{Make}
 use Rattle.server_data.specs.declared.data.Transaction.{Transaction}
-use Rattle.sql_cells.specs.declared.cell.Cell.{Cell}
 use Rattle.statement_forms.specs.declared.command.Command.{Command}
-use Rattle.statement_forms.specs.declared.command.Command.TheVariants.{SetUp, NamesUtf8mb4, NamesBinary, ForeignKeyChecksOff, TimeZoneUtc, BinaryLogOff, SqlMode, CharacterSetClient, CollationConnection, RepeatableRead, LockInstance, FlushTables, UnlockTables, UnlockInstance, StartSnapshot, Start, Commit, Rollback, Use, Create, CreateProgress, CreateProgressFiles, CreateProgressDump, Insert, InsertProgressFile, InsertProgressDump}
+use Rattle.statement_forms.specs.declared.command.Command.TheVariants.{SetUp, NamesUtf8mb4, NamesBinary, ForeignKeyChecksOff, TimeZoneUtc, BinaryLogOff, SqlMode, CharacterSetClient, CollationConnection, RepeatableRead, TimeZone, LockInstance, FlushTables, UnlockTables, UnlockInstance, StartSnapshot, Start, Commit, Rollback, Use, Create, CreateProgress, CreateProgressFiles, CreateProgressDump, Insert, InsertProgressFile, InsertProgressDump}
 use Rattle.statement_forms.specs.declared.form.Form.{Form}
 use Rattle.statement_forms.specs.declared.statement.Statement.{Statement}
 use Rattle.statement_forms.specs.declared.statement.Statement.TheVariants.{Command as SomeCommand, Query as SomeQuery}
@@ -32,7 +33,9 @@ commits_keeps state changes new commits = keeps_by state (with_own state commits
 
 ends_keeps : (state : State) (pending : Option (List Change)) (new : State) → EndsOpen state pending new → Keeps state new
 ends_keeps state None new is = keeps_by state state new refl refl is
-ends_keeps state (Some changes) new commits = commits_keeps state changes new commits
+ends_keeps state (Some []) new (inl is) = keeps_by state _ new refl refl is
+ends_keeps state (Some []) new (inr commits) = commits_keeps state [] new commits
+ends_keeps state (Some (change ∷ changes)) new commits = commits_keeps state (change ∷ changes) new commits
 
 creates_keeps : (state : State) (text : List ℕ) (new : State) → Creates state text new → Keeps state new
 creates_keeps state text new creates =
@@ -42,20 +45,21 @@ goes_keeps : (state : State) (pending : Option (List Change)) (changes : List Ch
 goes_keeps state None changes new commits = commits_keeps state changes new commits
 goes_keeps state (Some before) changes new is = keeps_by state _ new refl refl is
 
-inserts_keeps : (state : State) (schema table : List ℕ) (columns : List (List ℕ)) (found : List (List Cell)) (new : State) → InsertsInto state schema table columns found new → Keeps state new
-inserts_keeps state schema table columns found new inserts = goes_keeps state state.pending inserts.changes new inserts.goes
+inserts_keeps : (state : State) (table : Need) (says : Insertion) (new : State) → InsertsInto state table says new → Keeps state new
+inserts_keeps state table says new inserts = goes_keeps state state.pending inserts.changes new inserts.goes
 
 effect_keeps : (state : State) (command : Command) (new : State) → Effect state command new → Keeps state new
 effect_keeps state SetUp new is = keeps_by state _ new refl refl is
 effect_keeps state NamesUtf8mb4 new is = keeps_by state state new refl refl is
 effect_keeps state NamesBinary new is = keeps_by state state new refl refl is
 effect_keeps state ForeignKeyChecksOff new is = keeps_by state state new refl refl is
-effect_keeps state TimeZoneUtc new is = keeps_by state state new refl refl is
+effect_keeps state TimeZoneUtc new is = keeps_by state _ new refl refl is
 effect_keeps state BinaryLogOff new is = keeps_by state state new refl refl is
 effect_keeps state (SqlMode value) new is = keeps_by state _ new refl refl is
 effect_keeps state (CharacterSetClient value) new is = keeps_by state _ new refl refl is
 effect_keeps state (CollationConnection value) new is = keeps_by state _ new refl refl is
 effect_keeps state RepeatableRead new is = keeps_by state state new refl refl is
+effect_keeps state (TimeZone value) new is = keeps_by state _ new refl refl is
 effect_keeps state LockInstance new is = keeps_by state _ new refl refl is
 effect_keeps state FlushTables new is = keeps_by state _ new refl refl is
 effect_keeps state UnlockTables new is = keeps_by state _ new refl refl is
@@ -69,9 +73,9 @@ effect_keeps state (Create text) new creates = creates_keeps state _ new creates
 effect_keeps state CreateProgress new creates = creates_keeps state _ new creates
 effect_keeps state CreateProgressFiles new creates = creates_keeps state _ new creates
 effect_keeps state CreateProgressDump new creates = creates_keeps state _ new creates
-effect_keeps state (Insert text) new inserts = inserts_keeps state inserts.schema inserts.table inserts.columns inserts.rows new inserts.inserts
-effect_keeps state (InsertProgressFile name) new inserts = inserts_keeps state _ _ _ _ new inserts
-effect_keeps state (InsertProgressDump digest) new inserts = inserts_keeps state _ _ _ _ new inserts
+effect_keeps state (Insert text) new inserts = inserts_keeps state _ inserts.says new inserts.inserts
+effect_keeps state (InsertProgressFile name) new inserts = inserts_keeps state _ _ new inserts
+effect_keeps state (InsertProgressDump digest) new inserts = inserts_keeps state _ _ new inserts
 
 pub unknown_keeps : (state : State) (more : List Transaction) (form : Option Form) (refusal : Refusal) (new : State) → GivesErr state more form refusal new → Keeps state new
 unknown_keeps state more form refusal new gives = keeps_by state _ new refl refl gives.new_is

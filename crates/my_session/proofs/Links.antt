@@ -1,10 +1,10 @@
 -- What the calls of a link do, where its server is honest.
-use Rattle.std.proofs.Common.{◌≡◌, ◌↔◌, ℕ, Bool, true, false, List, ◌++◌, length, take, refl, sym, ◌∙◌, ap, subst, arith, append_assoc, Result, Ok, Err, IsErr}
+use Rattle.std.proofs.Common.{◌≡◌, ℕ, Bool, true, false, List, ◌++◌, length, take, refl, sym, ◌∙◌, ap, subst, arith, append_assoc, Result, Ok, Err}
 use Rattle.std.proofs.lemmas.Bool.{false≢true}
 use Rattle.honest_server.specs.Exchange.{Replies, packets_from}
-use Rattle.honest_server.specs.Link.{ServedLink, Sends, Receives, IsAnswered}
+use Rattle.honest_server.specs.Link.{ServedLink, Sends, Receives, IsExchanged}
 use Rattle.honest_server.specs.Moves.{plainly}
-use Rattle.link_traits.specs.Link.{Receives as TakesTold, stream, concatenation}
+use Rattle.link_traits.specs.Link.{Receives as TakesTold, StaysLink, stream, concatenation}
 use Rattle.link_traits.specs.declared.link.Link.{Ghosts}
 use Rattle.wire_forms.specs.Packet.{packets, packet_count, id_after}
 use Rattle.my_session.proofs.Effects.{exchanges_terms, breaks_terms}
@@ -16,12 +16,20 @@ by_failed true alive dead = dead refl
 by_failed false alive dead = alive refl
 
 received_terms : {E : Type 0} (old new : ServedLink) (buffer : List ℕ) (result : Result ℕ E) → Receives old buffer result new → new.state.terms ≡ old.state.terms
-received_terms old new buffer (Ok count) receives = ap (λ s. s.terms) receives.ok.state
+received_terms old new buffer (Ok count) receives = ap (λ s. s.terms) receives.ok.1.state
 received_terms old new buffer (Err fault) receives = ap (λ (s : ServedLink). s.state.terms) receives.err
 
+received_back : {E : Type 0} (old new : ServedLink) (buffer : List ℕ) (result : Result ℕ E) → Receives old buffer result new → new.failed ≡ false → old.failed ≡ false
+received_back old new buffer (Ok count) receives alive = receives.ok.0
+received_back old new buffer (Err fault) receives alive = absurd (false≢true (sym alive ∙ ap (λ (s : ServedLink). s.failed) receives.err))
+
 sent_terms : {T E : Type 0} (old new : ServedLink) (message : List ℕ) (result : Result T E) → Sends old message result new → new.state.terms ≡ old.state.terms
-sent_terms old new message (Ok sent) sends = exchanges_terms plainly old.state message sends.ok.reply new.state sends.ok.exchanges
-sent_terms old new message (Err fault) sends = breaks_terms old new message sends.err
+sent_terms old new message (Ok sent) sends = exchanges_terms plainly old.state message sends.ok.1.reply new.state sends.ok.1.exchanges
+sent_terms old new message (Err fault) sends = by_failed old.failed (λ alive. breaks_terms old new message (sends.err alive)) (λ failed. ap (λ (s : ServedLink). s.state.terms) (sends.dead failed))
+
+sent_back : {T E : Type 0} (old new : ServedLink) (message : List ℕ) (result : Result T E) → Sends old message result new → new.failed ≡ false → old.failed ≡ false
+sent_back old new message (Ok sent) sends alive = sends.ok.0
+sent_back old new message (Err fault) sends alive = by_failed old.failed (λ e. e) (λ failed. ap (λ (s : ServedLink). s.failed) (sym (sends.dead failed)) ∙ alive)
 
 module _ {L : Type 0} (of : Ghosts L) where
   -- a piece that was taken off a link
@@ -31,34 +39,35 @@ module _ {L : Type 0} (of : Ghosts L) where
       ap (λ (l : List ℕ). l ++ concatenation (of.told old).coming) off.bytes ∙ append_assoc (take count buffer) (of.told new).waiting (concatenation (of.told old).coming) ∙ ap (λ (c : List (List ℕ)). take count buffer ++ ((of.told new).waiting ++ concatenation c)) (sym off.coming)
 
 module _ {L : Type 0} (of : Ghosts L) (old new : L) where
-  -- a call on a link that has failed changes nothing of it
-  stays_by : {T E : Type 0} (result : Result T E) → (of.honest old ↔ of.honest new) → of.same_origin old new → (of.honest old → (of.served old).failed ≡ true → IsErr result × (of.served new ≡ of.served old)) → (of.honest old → (of.served old).failed ≡ false → (of.served new).state.terms ≡ (of.served old).state.terms) → Stays of old new
-  stays_by result honest origin dead terms = record {
-    honest = honest;
-    origin = origin;
-    terms = λ h. by_failed (of.served old).failed (terms h) (λ failed. ap (λ (s : ServedLink). s.state.terms) (dead h failed).1);
-    back = λ h alive. by_failed (of.served old).failed (λ e. e) (λ failed. ap (λ (s : ServedLink). s.failed) (sym (dead h failed).1) ∙ alive);
-  }
-
   module _ (E : Type 0) (buffer : List ℕ) where
-    pub recv_stays : (result : Result ℕ E) → (of.honest old ↔ of.honest new) → of.same_origin old new → (of.honest old → (of.served old).failed ≡ true → IsErr result × (of.served new ≡ of.served old)) → (of.honest old → (of.served old).failed ≡ false → Receives (of.served old) buffer result (of.served new)) → Stays of old new
-    recv_stays result honest origin dead served = stays_by result honest origin dead (λ h alive. received_terms (of.served old) (of.served new) buffer result (served h alive))
+    pub recv_stays : (result : Result ℕ E) → StaysLink of.honest of.tells of.same_origin old new → (of.honest old → Receives (of.served old) buffer result (of.served new)) → Stays of old new
+    recv_stays result stays served = record {
+      honest = stays.still_honest;
+      origin = stays.origin;
+      terms = λ h. received_terms (of.served old) (of.served new) buffer result (served h);
+      back = λ h. received_back (of.served old) (of.served new) buffer result (served h);
+    }
 
-    module _ (count : ℕ) (dead : of.honest old → (of.served old).failed ≡ true → IsErr {T = ℕ} {E = E} (Ok count) × (of.served new ≡ of.served old)) where
+    module _ (count : ℕ) (served : of.honest old → Receives {E = E} (of.served old) buffer (Ok count) (of.served new)) where
       pub recv_alive : of.honest old → (of.served old).failed ≡ false
-      recv_alive h = by_failed (of.served old).failed (λ e. e) (λ failed. absurd (false≢true (dead h failed).0))
+      recv_alive h = (served h).ok.0
 
-      pub recv_gives : (of.honest old → (of.served old).failed ≡ false → Receives {E = E} (of.served old) buffer (Ok count) (of.served new)) → of.honest old → Gives of (take count buffer) old new
-      recv_gives served h =
-          let off = (served h (recv_alive h)).ok in
+      pub recv_gives : of.honest old → Gives of (take count buffer) old new
+      recv_gives h =
+          let off = (served h).ok.1 in
           record { alive = off.alive; state = off.state; waits = sym off.bytes }
 
   module _ (T E : Type 0) (message : List ℕ) where
-    pub send_stays : (result : Result T E) → (of.honest old ↔ of.honest new) → of.same_origin old new → (of.honest old → (of.served old).failed ≡ true → IsErr result × (of.served new ≡ of.served old)) → (of.honest old → (of.served old).failed ≡ false → Sends (of.served old) message result (of.served new)) → Stays of old new
-    send_stays result honest origin dead served = stays_by result honest origin dead (λ h alive. sent_terms (of.served old) (of.served new) message result (served h alive))
+    pub send_stays : (result : Result T E) → StaysLink of.honest of.tells of.same_origin old new → (of.honest old → Sends (of.served old) message result (of.served new)) → Stays of old new
+    send_stays result stays served = record {
+      honest = stays.still_honest;
+      origin = stays.origin;
+      terms = λ h. sent_terms (of.served old) (of.served new) message result (served h);
+      back = λ h. sent_back (of.served old) (of.served new) message result (served h);
+    }
 
   -- what is answered to the packets of a payload
-  module _ (id : ℕ) (payload : List ℕ) (answered : IsAnswered plainly (of.served old) (packets id payload) (of.served new)) where
+  module _ (id : ℕ) (payload : List ℕ) (answered : IsExchanged plainly (of.served old) (packets id payload) (of.served new)) where
     pub replied : (of.served old).failed ≡ false → Replied of payload old new (id_after (packet_count (length payload)) id)
     replied alive =
         let exchanges = answered.exchanges in

@@ -1,11 +1,11 @@
 -- How a query is led, sent and described.
-use Rattle.std.proofs.Common.{◌≡◌, ◌<◌, ◌+◌, ◌-◌, ◌==◌, ◌&&◌, nat_lt, ℕ, suc, Bool, true, false, if◌then◌else◌, List, [], ◌∷◌, ◌++◌, length, map, replicate, refl, sym, ◌∙◌, ap, subst, inl, inr, ◌⊎◌, ◌≢◌, append_assoc, arith, Option, Some, None, Result, Ok, Err, OnOk, length-append}
+use Rattle.std.proofs.Common.{◌≡◌, ◌<◌, ◌+◌, ◌-◌, ◌==◌, ℕ, suc, Bool, true, false, if◌then◌else◌, List, [], ◌∷◌, ◌++◌, length, map, replicate, refl, sym, ◌∙◌, ap, subst, inl, inr, ◌⊎◌, ◌≢◌, append_assoc, arith, Option, Some, None, Result, Ok, Err, OnOk, length-append}
 use Rattle.std.specs.Prelude.{IfErr}
 use Rattle.std.proofs.lemmas.Bool.{ne_eqb}
 use Rattle.std.proofs.lemmas.List.{map-append}
-use Rattle.wire_forms.specs.Definition.{is_definition}
-use Rattle.wire_forms.specs.Reading.{Reading, Further, definition, row, garbled, columns_counted, further_of, reading_after, definition_if, end_if, refused_if, row_if, row_of}
-use Rattle.wire_forms.specs.Reply.{is_eof_packet, refusal_of}
+use Rattle.wire_forms.specs.Reading.{Reading, Further, definition, row, garbled, awaited_count, columns_counted, further_of, reading_after, definition_if, end_if, refused_if, row_if, row_of, is_before_rows, is_in_ends_place, is_end_packet}
+use Rattle.wire_forms.specs.Reply.{refusal_of}
+use Rattle.wire_forms.specs.declared.ends.Ends.{Ends}
 use Rattle.wire_forms.specs.Row.{Cell, cells_of}
 use Rattle.wire_forms.specs.ResultSet.{turns_of}
 use Rattle.wire_forms.specs.declared.refusal.Refusal.{Refusal}
@@ -13,14 +13,14 @@ use Rattle.result_rows.specs.RowCells.{row_cells}
 use Rattle.result_rows.specs.Turns.{IsTurn}
 use Rattle.result_rows.specs.declared.row.Row.{Row}
 use Rattle.result_rows.specs.declared.reader.Turn.{Turn}
-use Rattle.result_rows.specs.declared.reader.Turn.TheVariants.{Row as IsRow}
+use Rattle.result_rows.specs.declared.reader.Turn.TheVariants.{Definition as IsDefinition, Row as IsRow}
 use Rattle.wire_forms.specs.declared.reply.Reply.TheVariants.{Columns}
 use Rattle.statement_forms.specs.Form.{query_form}
 use Rattle.statement_forms.specs.Text.{query_text}
 use Rattle.statement_forms.specs.declared.command.Command.TheVariants.{Use}
 use Rattle.statement_forms.specs.declared.form.Form.{Form}
 use Rattle.statement_forms.specs.declared.query.Query.{Query}
-use Rattle.statement_forms.specs.declared.query.Query.TheVariants.{CreateTable, CreateView, CreateProcedure, CreateFunction, CreateTrigger}
+use Rattle.statement_forms.specs.declared.query.Query.TheVariants.{CreateTable, CreateView, CreateProcedure, CreateFunction, CreateTrigger, CreateEvent}
 use Rattle.my_session.proofs.Running.{leads_on, leads_said, leads_heard}
 use Rattle.my_session.specs.Awaited.{Awaited, count, further}
 use Rattle.my_session.specs.Halt.{Halts, Unsaid, Stops, at_message, at_payload}
@@ -39,6 +39,7 @@ led_by (CreateView own name) schema steps is run = let same : schema ≡ own = c
 led_by (CreateProcedure own name) schema steps is run = let same : schema ≡ own = cc in subst (λ (s : List ℕ). IsRun (Use s) steps) same run
 led_by (CreateFunction own name) schema steps is run = let same : schema ≡ own = cc in subst (λ (s : List ℕ). IsRun (Use s) steps) same run
 led_by (CreateTrigger own name) schema steps is run = let same : schema ≡ own = cc in subst (λ (s : List ℕ). IsRun (Use s) steps) same run
+led_by (CreateEvent own name) schema steps is run = let same : schema ≡ own = cc in subst (λ (s : List ℕ). IsRun (Use s) steps) same run
 led_by query schema steps is run = absurd (cc)
 
 awaits_by : (query : Query) (schema : List ℕ) (steps : List Step) (awaited : Awaited) → lead_of query ≡ Some schema → RunAwaits (Use schema) steps awaited → LeadAwaits query steps awaited
@@ -47,6 +48,7 @@ awaits_by (CreateView own name) schema steps awaited is run = let same : schema 
 awaits_by (CreateProcedure own name) schema steps awaited is run = let same : schema ≡ own = cc in subst (λ (s : List ℕ). RunAwaits (Use s) steps awaited) same run
 awaits_by (CreateFunction own name) schema steps awaited is run = let same : schema ≡ own = cc in subst (λ (s : List ℕ). RunAwaits (Use s) steps awaited) same run
 awaits_by (CreateTrigger own name) schema steps awaited is run = let same : schema ≡ own = cc in subst (λ (s : List ℕ). RunAwaits (Use s) steps awaited) same run
+awaits_by (CreateEvent own name) schema steps awaited is run = let same : schema ≡ own = cc in subst (λ (s : List ℕ). RunAwaits (Use s) steps awaited) same run
 awaits_by query schema steps awaited is run = absurd (cc)
 
 sends_by : (query : Query) (schema : List ℕ) (steps : List Step) (payload : List ℕ) → lead_of query ≡ Some schema → RunSends (Use schema) steps payload → LeadSends query steps payload
@@ -55,6 +57,7 @@ sends_by (CreateView own name) schema steps payload is run = let same : schema �
 sends_by (CreateProcedure own name) schema steps payload is run = let same : schema ≡ own = cc in subst (λ (s : List ℕ). RunSends (Use s) steps payload) same run
 sends_by (CreateFunction own name) schema steps payload is run = let same : schema ≡ own = cc in subst (λ (s : List ℕ). RunSends (Use s) steps payload) same run
 sends_by (CreateTrigger own name) schema steps payload is run = let same : schema ≡ own = cc in subst (λ (s : List ℕ). RunSends (Use s) steps payload) same run
+sends_by (CreateEvent own name) schema steps payload is run = let same : schema ≡ own = cc in subst (λ (s : List ℕ). RunSends (Use s) steps payload) same run
 sends_by query schema steps payload is run = absurd (cc)
 
 led_none : (query : Query) → lead_of query ≡ None → IsLed query []
@@ -63,6 +66,7 @@ led_none (CreateView own name) is = absurd (cc)
 led_none (CreateProcedure own name) is = absurd (cc)
 led_none (CreateFunction own name) is = absurd (cc)
 led_none (CreateTrigger own name) is = absurd (cc)
+led_none (CreateEvent own name) is = absurd (cc)
 led_none query is = refl
 
 pub takes_no_lead : (query : Query) (wire : Wire) → lead_of query ≡ None → Takes (IsLed query) wire wire
@@ -85,18 +89,17 @@ not_led query schema part old new (Err fault) is same runs = stops_lead query pa
 
 -- ---- the definitions
 
--- before the rows there are no others than definitions and their EOF
+-- before the rows there are no other messages
 by_tests : (found : Bool) → (definition_if found ≡ definition) ⊎ (definition_if found ≡ garbled)
 by_tests true = inl refl
 by_tests false = inr refl
 
-awaited_by : (none one eof is : Bool) (other : Further) → none ≡ false → ((if none then other else (if one then definition_if eof else definition_if is)) ≡ definition) ⊎ ((if none then other else (if one then definition_if eof else definition_if is)) ≡ garbled)
-awaited_by true one eof is other not = absurd (cc)
-awaited_by false true eof is other not = by_tests eof
-awaited_by false false eof is other not = by_tests is
+awaited_by : (none is : Bool) (other : Further) → none ≡ false → ((if none then other else definition_if is) ≡ definition) ⊎ ((if none then other else definition_if is) ≡ garbled)
+awaited_by true is other not = absurd (cc)
+awaited_by false is other not = by_tests is
 
 pub awaits_definition : (reading : Reading) (payload : List ℕ) → 0 < reading.awaited → (further_of reading payload ≡ definition) ⊎ (further_of reading payload ≡ garbled)
-awaits_definition reading payload some = awaited_by (reading.awaited == 0) (reading.awaited == 1) (is_eof_packet payload) (is_definition payload) (row_of reading.columns payload) (let other : reading.awaited ≢ 0 = omega arith in ne_eqb reading.awaited 0 other)
+awaits_definition reading payload some = awaited_by (reading.awaited == 0) (is_before_rows reading.ends reading.awaited payload) (row_of reading.ends reading.columns payload) (let other : reading.awaited ≢ 0 = omega arith in ne_eqb reading.awaited 0 other)
 
 more_turns : (reading : Reading) (others : List (List ℕ)) (message : List ℕ) → turns_of reading others ≡ replicate (length others) definition → further_of (record reading { awaited = reading.awaited - length others }) message ≡ definition → turns_of reading (others ++ message ∷ []) ≡ replicate (length others + 1) definition
 more_turns reading [] message turns is =
@@ -111,8 +114,8 @@ more_turns reading (other ∷ others) message turns is =
     let size : suc (length others + 1) ≡ suc (length others) + 1 = omega arith in
     ap (λ (f : Further). f ∷ turns_of (reading_after reading f) (others ++ message ∷ [])) first ∙ ap (λ (l : List Further). definition ∷ l) whole ∙ ap (λ (n : ℕ). replicate n definition) size
 
-module _ (query : Query) (start old new : Wire) where
-  pub described_first : (columns : ℕ) → Takes (IsAsked query) start old → HearsReply (Some (Columns columns)) old new → Takes (λ steps. IsDescribed query steps (columns_counted columns)) start new
+module _ (ending : Ends) (query : Query) (start old new : Wire) where
+  pub described_first : (columns : ℕ) → Takes (IsAsked query) start old → HearsReply (Some (Columns columns)) old new → Takes (λ steps. IsDescribed query steps (columns_counted ending columns)) start new
   described_first columns takes heard = record {
     steps = takes.steps ++ hears heard.message ∷ [];
     so = record {
@@ -123,7 +126,7 @@ module _ (query : Query) (start old new : Wire) where
       columns = columns;
       reply = heard.reply_is;
       turns = refl;
-      reading_is = let same : columns + 1 ≡ columns + 1 - 0 = omega arith in ap (λ (n : ℕ). let r : Reading = record { columns = columns; awaited = n } in r) same;
+      reading_is = let same : awaited_count ending columns ≡ awaited_count ending columns - 0 = omega arith in ap (λ (n : ℕ). let r : Reading = record { columns = columns; awaited = n; ends = ending } in r) same;
       steps_are = refl;
     };
     leads = leads_on takes.steps (hears heard.message ∷ []) start old new takes.leads (leads_heard heard.message old new heard.heard);
@@ -134,8 +137,8 @@ module _ (query : Query) (start old new : Wire) where
     described_next heard =
         let so : IsDescribed query takes.steps reading = takes.so in
         let size : length (so.others ++ heard.message ∷ []) ≡ length so.others + 1 = length-append so.others (heard.message ∷ []) in
-        let here : (let r : Reading = record { columns = so.columns; awaited = so.columns + 1 - length so.others } in r) ≡ reading = sym so.reading_is in
-        let left : so.columns + 1 - length so.others - 1 ≡ so.columns + 1 - length (so.others ++ heard.message ∷ []) = omega arith in
+        let here : (let r : Reading = record { columns = so.columns; awaited = awaited_count reading.ends so.columns - length so.others; ends = reading.ends } in r) ≡ reading = sym so.reading_is in
+        let left : awaited_count reading.ends so.columns - length so.others - 1 ≡ awaited_count reading.ends so.columns - length (so.others ++ heard.message ∷ []) = omega arith in
         record {
           steps = takes.steps ++ hears heard.message ∷ [];
           so = record {
@@ -145,8 +148,8 @@ module _ (query : Query) (start old new : Wire) where
             others = so.others ++ heard.message ∷ [];
             columns = so.columns;
             reply = so.reply;
-            turns = more_turns (columns_counted so.columns) so.others heard.message so.turns (ap (λ (r : Reading). further_of r heard.message) here ∙ heard.is) ∙ ap (λ (n : ℕ). replicate n definition) (sym size);
-            reading_is = ap (λ (r : Reading). record r { awaited = r.awaited - 1 }) so.reading_is ∙ ap (λ (n : ℕ). let r : Reading = record { columns = so.columns; awaited = n } in r) left;
+            turns = more_turns (columns_counted reading.ends so.columns) so.others heard.message so.turns (ap (λ (r : Reading). further_of r heard.message) here ∙ heard.is) ∙ ap (λ (n : ℕ). replicate n definition) (sym size);
+            reading_is = ap (λ (r : Reading). record r { awaited = r.awaited - 1 }) so.reading_is ∙ ap (λ (n : ℕ). let r : Reading = record { columns = so.columns; awaited = n; ends = reading.ends } in r) left;
             steps_are =
                 ap (λ (l : List Step). l ++ hears heard.message ∷ []) so.steps_are
                 ∙ append_assoc so.before (hears so.first ∷ map (λ (message : List ℕ). hears message) so.others) (hears heard.message ∷ [])
@@ -155,13 +158,13 @@ module _ (query : Query) (start old new : Wire) where
           leads = leads_on takes.steps (hears heard.message ∷ []) start old new takes.leads (leads_heard heard.message old new heard.heard);
         }
 
-    pub definition_halts : (form : Form) (fault : SessionFault) → form ≡ query_form query → Halts (further form reading) old fault new → Stops (QueryAwaits query) (QuerySends query) start fault new
-    definition_halts form fault form_is halts = at_message (a_definition takes.so) takes.leads (subst (λ (f : Form). Halts (further f reading) old fault new) form_is halts)
+    pub definition_halts : (form : Form) (fault : SessionFault) → reading.ends ≡ ending → form ≡ query_form query → Halts (further form reading) old fault new → Stops (QueryAwaits ending query) (QuerySends query) start fault new
+    definition_halts form fault so form_is halts = at_message (a_definition so takes.so) takes.leads (subst (λ (f : Form). Halts (further f reading) old fault new) form_is halts)
 
-  pub count_halts : (form : Form) (fault : SessionFault) → form ≡ query_form query → Takes (IsAsked query) start old → Halts (count form) old fault new → Stops (QueryAwaits query) (QuerySends query) start fault new
+  pub count_halts : (form : Form) (fault : SessionFault) → form ≡ query_form query → Takes (IsAsked query) start old → Halts (count form) old fault new → Stops (QueryAwaits ending query) (QuerySends query) start fault new
   count_halts form fault form_is takes halts = at_message (a_count takes.so) takes.leads (subst (λ (f : Form). Halts (count f) old fault new) form_is halts)
 
-  pub query_unsaid : (fault : SessionFault) → Takes (IsLed query) start old → Unsaid (query_payload (query_text query)) old fault new → Stops (QueryAwaits query) (QuerySends query) start fault new
+  pub query_unsaid : (fault : SessionFault) → Takes (IsLed query) start old → Unsaid (query_payload (query_text query)) old fault new → Stops (QueryAwaits ending query) (QuerySends query) start fault new
   query_unsaid fault takes unsaid = at_payload (the_query takes.so refl) takes.leads unsaid
 
   pub query_said : Takes (IsLed query) start old → Sent 0 (query_payload (query_text query)) old new → Takes (IsAsked query) start new
@@ -171,9 +174,9 @@ module _ (query : Query) (start old new : Wire) where
     leads = leads_on takes.steps (commands (query_payload (query_text query)) ∷ []) start old new takes.leads (leads_said (query_payload (query_text query)) old new said);
   }
 
-pub lead_stops : (query : Query) (old new : Wire) (fault : SessionFault) → Stops (LeadAwaits query) (LeadSends query) old fault new → Stops (QueryAwaits query) (QuerySends query) old fault new
-lead_stops query old new fault (at_message awaits leads halts) = at_message (a_lead awaits) leads halts
-lead_stops query old new fault (at_payload sends leads unsaid) = at_payload (the_lead sends) leads unsaid
+pub lead_stops : (ending : Ends) (query : Query) (old new : Wire) (fault : SessionFault) → Stops (LeadAwaits query) (LeadSends query) old fault new → Stops (QueryAwaits ending query) (QuerySends query) old fault new
+lead_stops ending query old new fault (at_message awaits leads halts) = at_message (a_lead awaits) leads halts
+lead_stops ending query old new fault (at_payload sends leads unsaid) = at_payload (the_lead sends) leads unsaid
 
 -- ---- the rows
 
@@ -194,22 +197,22 @@ definition_by false true eof (Some refusal) found is = cc
 definition_by false false eof refusal None is = cc
 definition_by false false eof refusal (Some found) is = cc
 
-cells_in_place : (columns : ℕ) (message : List ℕ) (cells : List Cell) → row_of columns message ≡ row cells → cells_of columns message ≡ Some cells
-cells_in_place columns [] cells is = absurd (cc)
-cells_in_place columns (byte ∷ bytes) cells is = row_by (byte == 254 && nat_lt (length bytes) 8) (byte == 255) (is_eof_packet (byte ∷ bytes)) (refusal_of (byte ∷ bytes)) (cells_of columns (byte ∷ bytes)) cells is
+cells_in_place : (ending : Ends) (columns : ℕ) (message : List ℕ) (cells : List Cell) → row_of ending columns message ≡ row cells → cells_of columns message ≡ Some cells
+cells_in_place ending columns [] cells is = absurd (cc)
+cells_in_place ending columns (byte ∷ bytes) cells is = row_by (is_in_ends_place ending (byte ∷ bytes)) (byte == 255) (is_end_packet ending (byte ∷ bytes)) (refusal_of (byte ∷ bytes)) (cells_of columns (byte ∷ bytes)) cells is
 
-row_no_definition : (columns : ℕ) (message : List ℕ) → row_of columns message ≡ definition → ⊥
-row_no_definition columns [] is = cc
-row_no_definition columns (byte ∷ bytes) is = definition_by (byte == 254 && nat_lt (length bytes) 8) (byte == 255) (is_eof_packet (byte ∷ bytes)) (refusal_of (byte ∷ bytes)) (cells_of columns (byte ∷ bytes)) is
+row_no_definition : (ending : Ends) (columns : ℕ) (message : List ℕ) → row_of ending columns message ≡ definition → ⊥
+row_no_definition ending columns [] is = cc
+row_no_definition ending columns (byte ∷ bytes) is = definition_by (is_in_ends_place ending (byte ∷ bytes)) (byte == 255) (is_end_packet ending (byte ∷ bytes)) (refusal_of (byte ∷ bytes)) (cells_of columns (byte ∷ bytes)) is
 
 -- a message in the place of a row
-in_place : (reading : Reading) (message : List ℕ) → reading.awaited ≡ 0 → further_of reading message ≡ row_of reading.columns message
-in_place reading message none = ap (λ (n : ℕ). further_of (record { columns = reading.columns; awaited = n }) message) none
+in_place : (reading : Reading) (message : List ℕ) → reading.awaited ≡ 0 → further_of reading message ≡ row_of reading.ends reading.columns message
+in_place reading message none = ap (λ (n : ℕ). further_of (record { columns = reading.columns; awaited = n; ends = reading.ends }) message) none
 
 is_row_of : (reading : Reading) (message : List ℕ) (cells : List Cell) → reading.awaited ≡ 0 → further_of reading message ≡ row cells → IsRowOf reading message
 is_row_of reading message cells none is = record {
   cells = cells;
-  cells_are = cells_in_place reading.columns message cells (sym (in_place reading message none) ∙ is);
+  cells_are = cells_in_place reading.ends reading.columns message cells (sym (in_place reading message none) ∙ is);
   is = is;
 }
 
@@ -219,8 +222,15 @@ judged_row reading now message place turn found none is told after =
     (is_row_of reading message (row_cells found) none said.0, after ∙ ap (λ (f : Further). reading_after reading f) said.0)
 
 pub rows_no_definition : (reading : Reading) (message : List ℕ) → reading.awaited ≡ 0 → further_of reading message ≡ definition → ⊥
-rows_no_definition reading message none is = row_no_definition reading.columns message (sym (in_place reading message none) ∙ is)
+rows_no_definition reading message none is = row_no_definition reading.ends reading.columns message (sym (in_place reading message none) ∙ is)
 
--- so many definitions and their EOF were read
-pub at_rows : (reading : Reading) (columns : ℕ) → reading.columns ≡ columns → reading.awaited ≡ 0 → reading ≡ rows_of columns
-at_rows reading columns is none = ap (λ (n : ℕ). record reading { columns = n }) is ∙ ap (λ (n : ℕ). let r : Reading = record { columns = columns; awaited = n } in r) none
+pub judged_definition : (reading : Reading) (message : List ℕ) (place : ℕ) (turn : Turn) → reading.awaited ≡ 0 → turn ≡ IsDefinition → IsTurn place (Ok turn) (further_of reading message) → ⊥
+judged_definition reading message place turn none is told =
+    rows_no_definition reading message none (subst (λ (t : Turn). IsTurn place (Ok t) (further_of reading message)) is told)
+
+-- all messages before the rows were read
+pub at_rows : (reading : Reading) (ending : Ends) (columns : ℕ) → reading.ends ≡ ending → reading.columns ≡ columns → reading.awaited ≡ 0 → reading ≡ rows_of ending columns
+at_rows reading ending columns so is none =
+    ap (λ (n : ℕ). record reading { columns = n }) is
+    ∙ ap (λ (n : ℕ). record reading { columns = columns; awaited = n }) none
+    ∙ ap (λ (e : Ends). rows_of e columns) so

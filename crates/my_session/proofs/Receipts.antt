@@ -1,5 +1,5 @@
 -- A message that is taken off a link piece by piece.
-use Rattle.std.proofs.Common.{◌≡◌, ◌≤◌, ◌<◌, ◌+◌, ◌-◌, ◌*◌, ◌^◌, ◌↔◌, ℕ, Bool, true, false, List, [], ◌++◌, length, take, refl, sym, ◌∙◌, ap, subst, inl, inr, arith, append_assoc, length-append, Result, Ok, Err, OnOk, OnErr, IsErr, ◌≢◌}
+use Rattle.std.proofs.Common.{◌≡◌, ◌≤◌, ◌<◌, ◌+◌, ◌-◌, ◌*◌, ◌^◌, ◌↔◌, ℕ, Bool, true, false, List, [], ◌++◌, length, take, refl, sym, ◌∙◌, ap, subst, inl, inr, arith, append_assoc, length-append, Result, Ok, Err, OnOk, OnErr, ◌≢◌}
 use Rattle.std.proofs.lemmas.List.{append-nil, length-take-le, take-append-le}
 use Rattle.honest_server.specs.Link.{Receives as TakesServed}
 use Rattle.link_traits.specs.Link.{Receives, stream}
@@ -44,10 +44,10 @@ settled_waits_not old new false wants is waits = settled_is_no_part old.limit ol
 
 module _ {L : Type 0} (of : Ghosts L) where
   -- a piece that was taken off a link
-  pub fetches_piece : (old new : L) (E : Type 0) (wants : ℕ) (before now : Unread) (taken count : ℕ) (buffer rest : List ℕ) → (of.tells old → Receives {E = E} (of.told old) buffer (Ok count) (of.told new)) → (of.honest old → (of.served old).failed ≡ true → IsErr {T = ℕ} {E = E} (Ok count) × (of.served new ≡ of.served old)) → (of.honest old → (of.served old).failed ≡ false → TakesServed {E = E} (of.served old) buffer (Ok count) (of.served new))
+  pub fetches_piece : (old new : L) (E : Type 0) (wants : ℕ) (before now : Unread) (taken count : ℕ) (buffer rest : List ℕ) → (of.tells old → Receives {E = E} (of.told old) buffer (Ok count) (of.told new)) → (of.honest old → TakesServed {E = E} (of.served old) buffer (Ok count) (of.served new))
       → now ≡ record before { message = []; bytes = before.bytes ++ take count (buffer ++ rest) } → 0 < count → count ≤ length buffer → length buffer ≤ wants
       → Fetches of wants old new before now taken (taken + count)
-  fetches_piece old new E wants before now taken count buffer rest received dead served now_is some fits few =
+  fetches_piece old new E wants before now taken count buffer rest received served now_is some fits few =
       let is : take count (buffer ++ rest) ≡ take count buffer = take-append-le count buffer rest fits in
       let size : length (take count buffer) ≡ count = length-take-le count buffer fits in
       let same : length (take count (buffer ++ rest)) ≡ length (take count buffer) = ap (λ (l : List ℕ). length l) is in
@@ -58,8 +58,8 @@ module _ {L : Type 0} (of : Ghosts L) where
         frames = now_is;
         taken = omega arith;
         stream = λ t. taken_off of old new E count buffer received t ∙ ap (λ (l : List ℕ). l ++ stream (of.told new)) (sym is);
-        was_alive = recv_alive of old new E buffer count dead;
-        gives = λ h. subst (λ (l : List ℕ). Gives of l old new) (sym is) (recv_gives of old new E buffer count dead served h);
+        was_alive = recv_alive of old new E buffer count served;
+        gives = λ h. subst (λ (l : List ℕ). Gives of l old new) (sym is) (recv_gives of old new E buffer count served h);
       }
 
   pub gathers_none : ((one : L) → of.same_origin one one) → (link : L) (frames : Unread) (taken : ℕ) → frames.bytes ≡ [] → Gathers of link link frames frames taken taken

@@ -1,15 +1,16 @@
 -- What an honest server's reply begins with, and what follows it.
-use Rattle.std.proofs.Common.{Bool, None, ◌≡◌, ◌+◌, ℕ, zero, suc, List, [], ◌∷◌, ◌++◌, map, replicate, refl, sym, ◌∙◌, ap, subst, inl, inr, Option, Some}
+use Rattle.std.proofs.Common.{None, ◌≡◌, ℕ, zero, suc, List, [], ◌∷◌, ◌++◌, map, replicate, refl, sym, ◌∙◌, ap, subst, inl, inr, Option, Some}
 use Rattle.honest_server.specs.Exchange.{Replies, accepted, switched, turned_away, quits, served, unknown, ignored, query_payload, IsLoggingIn}
 use Rattle.honest_server.specs.Serve.{Reply, done, rows, refused}
 use Rattle.honest_server.specs.Spelled.{Spells, SpellsErr, BreaksOff, SpellsRowsOf, sent_rows}
 use Rattle.honest_server.specs.Moves.{Way}
-use Rattle.honest_server.specs.State.{State, Phase, in_session}
+use Rattle.honest_server.specs.State.{Server, State, Terms, Phase, in_session}
 use Rattle.result_rows.proofs.ResultSets.{set-taken}
-use Rattle.wire_forms.specs.Reading.{Reading, Further, definition, row, end, refused as refused_turn, garbled, columns_counted, further_of, reading_after}
+use Rattle.wire_forms.specs.Reading.{Reading, Further, definition, row, end, refused as refused_turn, garbled, awaited_count, columns_counted, further_of, reading_after}
 use Rattle.wire_forms.specs.Reply.{reply_of}
 use Rattle.wire_forms.specs.ResultSet.{turns_of}
 use Rattle.wire_forms.specs.Row.{Cell}
+use Rattle.wire_forms.specs.declared.ends.Ends.{Ends}
 use Rattle.wire_forms.specs.declared.refusal.Refusal.{Refusal}
 use Rattle.wire_forms.specs.declared.reply.Reply.{Reply as FirstReply}
 use Rattle.sql_cells.specs.declared.cell.Cell.{Cell as FoundCell}
@@ -55,46 +56,46 @@ completes_turns (suc count) reading found last (message ∷ messages) ending tur
 
 -- ---- a reply in a session
 
-reply_alone : (message : List ℕ) (messages : List (List ℕ)) (reply : FirstReply) → messages ≡ message ∷ [] → reply_of message ≡ Some reply → Follows (Some reply) [] → IsReply messages
-reply_alone message messages reply messages_are says follows = record {
+reply_alone : (ending : Ends) (message : List ℕ) (messages : List (List ℕ)) (reply : FirstReply) → messages ≡ message ∷ [] → reply_of message ≡ Some reply → Follows ending (Some reply) [] → IsReply ending messages
+reply_alone ending message messages reply messages_are says follows = record {
   first = message;
   others = [];
   messages_are = messages_are;
-  follows = subst (λ (r : Option FirstReply). Follows r []) (sym says) follows;
+  follows = subst (λ (r : Option FirstReply). Follows ending r []) (sym says) follows;
 }
 
-err_reply : (willing : Bool) (refusal : Refusal) (messages : List (List ℕ)) → SpellsErr willing refusal messages → IsReply messages
-err_reply willing refusal messages spells = reply_alone spells.message messages _ spells.messages_are spells.says refl
+err_reply : (server : Server) (refusal : Refusal) (messages : List (List ℕ)) → SpellsErr server refusal messages → IsReply server.ends messages
+err_reply server refusal messages spells = reply_alone server.ends spells.message messages _ spells.messages_are spells.says refl
 
-rows_reply : (willing : Bool) (query : Query) (found : List (List FoundCell)) (messages : List (List ℕ)) → SpellsRowsOf willing query found messages → IsReply messages
-rows_reply willing query found messages spells =
-    let is_taken = set-taken spells.columns (sent_rows found) messages spells.is_set in
+rows_reply : (server : Server) (query : Query) (found : List (List FoundCell)) (messages : List (List ℕ)) → SpellsRowsOf server query found messages → IsReply server.ends messages
+rows_reply server query found messages spells =
+    let is_taken = set-taken server.ends spells.columns (sent_rows found) messages spells.is_set in
     record {
       first = is_taken.first;
       others = is_taken.others;
       messages_are = is_taken.messages_are;
-      follows = subst (λ (r : Option FirstReply). Follows r is_taken.others) (sym is_taken.reply) (completes_turns (spells.columns + 1) (columns_counted spells.columns) (sent_rows found) end is_taken.others tt is_taken.turns);
+      follows = subst (λ (r : Option FirstReply). Follows server.ends r is_taken.others) (sym is_taken.reply) (completes_turns (awaited_count server.ends spells.columns) (columns_counted server.ends spells.columns) (sent_rows found) end is_taken.others tt is_taken.turns);
     }
 
-broken_reply : (willing : Bool) (query : Query) (found : List (List FoundCell)) (refusal : Refusal) (messages : List (List ℕ)) → BreaksOff willing query found refusal messages → IsReply messages
-broken_reply willing query found refusal messages breaks = record {
+broken_reply : (server : Server) (query : Query) (found : List (List FoundCell)) (refusal : Refusal) (messages : List (List ℕ)) → BreaksOff server query found refusal messages → IsReply server.ends messages
+broken_reply server query found refusal messages breaks = record {
   first = breaks.first;
   others = breaks.others;
   messages_are = breaks.messages_are;
-  follows = subst (λ (r : Option FirstReply). Follows r breaks.others) (sym breaks.counts) (completes_turns (breaks.columns + 1) (columns_counted breaks.columns) (sent_rows found) (refused_turn refusal) breaks.others tt breaks.turns);
+  follows = subst (λ (r : Option FirstReply). Follows server.ends r breaks.others) (sym breaks.counts) (completes_turns (awaited_count server.ends breaks.columns) (columns_counted server.ends breaks.columns) (sent_rows found) (refused_turn refusal) breaks.others tt breaks.turns);
 }
 
-spelled_reply : (willing : Bool) (statement : Statement) (reply : Reply) (messages : List (List ℕ)) → Spells willing statement reply messages → IsReply messages
-spelled_reply willing (SomeCommand command) done messages spells = reply_alone spells.message messages _ spells.messages_are spells.says refl
-spelled_reply willing (SomeCommand command) (rows found) messages spells = absurd spells
-spelled_reply willing (SomeCommand command) (refused found refusal) messages spells = err_reply willing refusal messages spells
-spelled_reply willing (SomeQuery query) done messages spells = absurd spells
-spelled_reply willing (SomeQuery query) (rows found) messages spells = rows_reply willing query found messages spells
-spelled_reply willing (SomeQuery query) (refused found refusal) messages (inl spells) = err_reply willing refusal messages spells.1
-spelled_reply willing (SomeQuery query) (refused found refusal) messages (inr breaks) = broken_reply willing query found refusal messages breaks
+spelled_reply : (server : Server) (statement : Statement) (reply : Reply) (messages : List (List ℕ)) → Spells server statement reply messages → IsReply server.ends messages
+spelled_reply server (SomeCommand command) done messages spells = reply_alone server.ends spells.message messages _ spells.messages_are spells.says refl
+spelled_reply server (SomeCommand command) (rows found) messages spells = absurd spells
+spelled_reply server (SomeCommand command) (refused found refusal) messages spells = err_reply server refusal messages spells
+spelled_reply server (SomeQuery query) done messages spells = absurd spells
+spelled_reply server (SomeQuery query) (rows found) messages spells = rows_reply server query found messages spells
+spelled_reply server (SomeQuery query) (refused found refusal) messages (inl spells) = err_reply server refusal messages spells.1
+spelled_reply server (SomeQuery query) (refused found refusal) messages (inr breaks) = broken_reply server query found refusal messages breaks
 
 pub record InSession (messages : List (List ℕ)) (new : State) : Type 0 where
-  pub is_reply : IsReply messages
+  pub is_reply : IsReply new.terms.server.ends messages
   pub phase : new.phase ≡ in_session
 
 -- in a session a text is answered by a whole reply, and the session stays open
@@ -104,11 +105,11 @@ session_reply way state text payload messages new here is (switched message phas
 session_reply way state text payload messages new here is (turned_away refusal logging unwilling says new_is) = absurd (subst (λ (p : Phase). IsLoggingIn p) here logging)
 session_reply way state text payload messages new here is (quits phase payload_is messages_are new_is) = absurd (cc)
 session_reply way state text payload messages new here is (served also statement reply phase payload_is read serves spells) = record {
-  is_reply = spelled_reply state.terms.willing statement reply messages spells;
+  is_reply = subst (λ (t : Terms). IsReply t.server.ends messages) (sym (serves_keeps way state statement reply new serves).terms) (spelled_reply state.terms.server statement reply messages spells);
   phase = (serves_keeps way state statement reply new serves).phase ∙ here;
 }
 session_reply way state text payload messages new here is (unknown refusal more phase nothing gives says) = record {
-  is_reply = err_reply state.terms.willing refusal messages says;
+  is_reply = subst (λ (t : Terms). IsReply t.server.ends messages) (sym (unknown_keeps state more None refusal new gives).terms) (err_reply state.terms.server refusal messages says);
   phase = (unknown_keeps state more None refusal new gives).phase ∙ here;
 }
 session_reply way state text payload messages new here is (ignored phase messages_are new_is) = absurd (cc)

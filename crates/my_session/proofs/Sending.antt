@@ -1,9 +1,9 @@
 -- What sending does to what is still to be heard.
 use Rattle.std.proofs.Common.{◌≡◌, ◌<◌, ◌≤◌, ◌+◌, ◌%◌, List, [], ◌∷◌, ◌++◌, ℕ, false, length, arith, refl, sym, ◌∙◌, ap, subst, append_assoc, Result, Ok, Err, OnOk}
-use Rattle.honest_server.specs.Link.{IsAnswered, IsNoCreate}
+use Rattle.honest_server.specs.Link.{IsExchanged, IsNoCreate, MaySend}
 use Rattle.honest_server.specs.Exchange.{BeginsAt, IsLoggingIn, IsWholeMessage}
 use Rattle.honest_server.specs.Moves.{plainly}
-use Rattle.honest_server.specs.State.{Phase, greeted, switching, in_session, over}
+use Rattle.honest_server.specs.State.{State, Phase, greeted, switching, in_session, over}
 use Rattle.my_packets.proofs.Packets.{short_packets}
 use Rattle.wire_forms.specs.Packet.{packet, packets, packet_count, id_after}
 use Rattle.link_traits.specs.Link.{Told, stream, concatenation, first, others, told_after_send}
@@ -57,6 +57,16 @@ makes_none id payload bytes is none = subst (λ (l : List ℕ). IsNoCreate l) (s
 pub short_makes_none : (id : ℕ) (payload bytes : List ℕ) → id < 256 → length payload ≤ 1001 → bytes ≡ packet id payload → MakesNoObject payload → IsNoCreate bytes
 short_makes_none id payload bytes byte short is none = makes_none id payload bytes (is ∙ sym (short_is_sent id payload byte short)) none
 
+-- such packets may be sent
+pub may_send : (state : State) (id : ℕ) (payload bytes : List ℕ) → bytes ≡ packets id payload → BeginsAt state.phase id → (state.phase ≡ in_session → state.terms.sole ≡ false → MakesNoObject payload) → MaySend state bytes
+may_send state id payload bytes is begins none = record {
+  whole = is_whole state.phase id payload bytes is begins;
+  no_create = λ phase sole. makes_none id payload bytes is (none phase sole);
+}
+
+pub may_send_short : (state : State) (id : ℕ) (payload bytes : List ℕ) → id < 256 → length payload ≤ 1001 → bytes ≡ packet id payload → BeginsAt state.phase id → (state.phase ≡ in_session → state.terms.sole ≡ false → MakesNoObject payload) → MaySend state bytes
+may_send_short state id payload bytes byte short is = may_send state id payload bytes (is ∙ sym (short_is_sent id payload byte short))
+
 -- neither is COM_QUIT
 quits_nothing : MakesNoObject (1 ∷ [])
 quits_nothing text is head = cc
@@ -64,15 +74,18 @@ quits_nothing text is head = cc
 pub quit_makes_none : IsNoCreate (1 ∷ 0 ∷ 0 ∷ 0 ∷ 1 ∷ [])
 quit_makes_none = short_makes_none 0 (1 ∷ []) (1 ∷ 0 ∷ 0 ∷ 0 ∷ 1 ∷ []) (omega arith) (omega arith) refl quits_nothing
 
+pub may_quit : (state : State) → state.phase ≡ in_session → MaySend state (1 ∷ 0 ∷ 0 ∷ 0 ∷ 1 ∷ [])
+may_quit state is = record { whole = quit_is_whole state.phase is; no_create = λ phase sole. quit_makes_none }
+
 -- what is answered to the packets of a payload is answered to it
 module _ {L : Type 0} (of : Ghosts L) (old new : L) (id next : ℕ) (payload bytes : List ℕ) where
-  pub said : bytes ≡ packets id payload → next ≡ id_after (packet_count (length payload)) id → (of.honest old → (of.served old).failed ≡ false) → (of.honest old → IsAnswered plainly (of.served old) bytes (of.served new)) → of.honest old → Replied of payload old new next
+  pub said : bytes ≡ packets id payload → next ≡ id_after (packet_count (length payload)) id → (of.honest old → (of.served old).failed ≡ false) → (of.honest old → IsExchanged plainly (of.served old) bytes (of.served new)) → of.honest old → Replied of payload old new next
   said bytes_are next_is alive told_after_send h =
       subst (λ (n : ℕ). Replied of payload old new n) (sym next_is)
-      (replied of old new id payload (subst (λ (l : List ℕ). IsAnswered plainly (of.served old) l (of.served new)) bytes_are (told_after_send h)) (alive h))
+      (replied of old new id payload (subst (λ (l : List ℕ). IsExchanged plainly (of.served old) l (of.served new)) bytes_are (told_after_send h)) (alive h))
 
 module _ {L : Type 0} (of : Ghosts L) (old new : L) (id now next : ℕ) (payload bytes : List ℕ) where
-  pub short_said : (result : Result (Unit {0}) SessionFault) → id < 256 → length payload ≤ 1001 → bytes ≡ packet id payload → next ≡ (id + 1) % 256 → OnOk result (now ≡ next) → OnOk result (of.honest old → (of.served old).failed ≡ false) → OnOk result (of.honest old → IsAnswered plainly (of.served old) bytes (of.served new))
+  pub short_said : (result : Result (Unit {0}) SessionFault) → id < 256 → length payload ≤ 1001 → bytes ≡ packet id payload → next ≡ (id + 1) % 256 → OnOk result (now ≡ next) → OnOk result (of.honest old → (of.served old).failed ≡ false) → OnOk result (of.honest old → IsExchanged plainly (of.served old) bytes (of.served new))
       → OnOk result (of.honest old → Replied of payload old new now)
   short_said (Ok sent) byte short is next_is here alive told_after_send = said of old new id now payload bytes (is ∙ sym (short_is_sent id payload byte short)) (here ∙ next_is ∙ (omega arith)) alive told_after_send
   short_said (Err fault) byte short is next_is here alive told_after_send = tt

@@ -1,5 +1,5 @@
 -- A message that is taken off a link piece by piece, of which the front is kept.
-use Rattle.std.proofs.Common.{◌≡◌, ◌≤◌, ◌<◌, ◌+◌, ◌-◌, ◌*◌, ◌/◌, ◌^◌, ◌↔◌, ◌≢◌, ℕ, true, false, List, [], ◌++◌, length, take, refl, sym, ◌∙◌, ap, subst, arith, append_assoc, length-append, None, Ok, Err, IsErr}
+use Rattle.std.proofs.Common.{◌≡◌, ◌≤◌, ◌<◌, ◌+◌, ◌-◌, ◌*◌, ◌/◌, ◌^◌, ◌↔◌, ◌≢◌, ℕ, List, [], ◌++◌, length, take, refl, sym, ◌∙◌, ap, subst, arith, append_assoc, length-append, None, Ok, Err}
 use Rattle.std.proofs.lemmas.List.{append-nil, length-take-le, take-append-le}
 use Rattle.honest_server.specs.Link.{Receives as TakesServed}
 use Rattle.link_traits.specs.Link.{Receives, stream}
@@ -38,10 +38,10 @@ counted_by : (size count bytes : ℕ) → count ≡ size / 16777215 + 1 → byte
 counted_by size count bytes count_is bytes_is = omega arith
 
 module _ {L : Type 0} (of : Ghosts L) where
-  pub skims_piece : (old new : L) (E : Type 0) (before now : Skimmed) (done : Unit {0}) (taken count : ℕ) (buffer rest : List ℕ) → (of.tells old → Receives {E = E} (of.told old) buffer (Ok count) (of.told new)) → (of.honest old → (of.served old).failed ≡ true → IsErr {T = ℕ} {E = E} (Ok count) × (of.served new ≡ of.served old)) → (of.honest old → (of.served old).failed ≡ false → TakesServed {E = E} (of.served old) buffer (Ok count) (of.served new))
+  pub skims_piece : (old new : L) (E : Type 0) (before now : Skimmed) (done : Unit {0}) (taken count : ℕ) (buffer rest : List ℕ) → (of.tells old → Receives {E = E} (of.told old) buffer (Ok count) (of.told new)) → (of.honest old → TakesServed {E = E} (of.served old) buffer (Ok count) (of.served new))
       → Feeds before (take count (buffer ++ rest)) (Ok done) now → 0 < count → count ≤ length buffer
       → SkimsPiece of old new before now taken (taken + count)
-  skims_piece old new E before now done taken count buffer rest received dead served feeds some fits =
+  skims_piece old new E before now done taken count buffer rest received served feeds some fits =
       let is : take count (buffer ++ rest) ≡ take count buffer = take-append-le count buffer rest fits in
       let size : length (take count buffer) ≡ count = length-take-le count buffer fits in
       let same : length (take count (buffer ++ rest)) ≡ length (take count buffer) = ap (λ (l : List ℕ). length l) is in
@@ -52,7 +52,7 @@ module _ {L : Type 0} (of : Ghosts L) where
         right = feeds.stands;
         taken = omega arith;
         stream = λ t. taken_off of old new E count buffer received t ∙ ap (λ (l : List ℕ). l ++ stream (of.told new)) (sym is);
-        gives = λ h. subst (λ (l : List ℕ). Gives of l old new) (sym is) (recv_gives of old new E buffer count dead served h);
+        gives = λ h. subst (λ (l : List ℕ). Gives of l old new) (sym is) (recv_gives of old new E buffer count served h);
       }
 
   pub spoils_piece : (old new : L) (E : Type 0) (before now : Skimmed) (fault : FrameFault) (taken count : ℕ) (buffer rest : List ℕ) → (of.tells old → Receives {E = E} (of.told old) buffer (Ok count) (of.told new)) → Feeds before (take count (buffer ++ rest)) (Err fault) now → count ≤ length buffer → taken + count ≤ 2 ^ 62

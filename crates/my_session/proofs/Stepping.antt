@@ -6,9 +6,13 @@ use Rattle.std.proofs.lemmas.List.{append-nil}
 use Rattle.honest_server.specs.Exchange.{IsGreeting, packets_from, query_payload, IsLoggingIn}
 use Rattle.honest_server.specs.Moves.{plainly}
 use Rattle.honest_server.specs.Site.{ServedSite, IsNewLink}
-use Rattle.honest_server.specs.State.{State, Phase, greeted, switching, in_session}
+use Rattle.honest_server.specs.State.{Server, State, Terms, Phase, greeted, switching, in_session}
 use Rattle.link_traits.specs.declared.link.Link.{Ghosts}
 use Rattle.wire_forms.specs.Switch.{switch_of}
+use Rattle.wire_forms.specs.Greeting.{greeting_of}
+use Rattle.wire_forms.specs.declared.ends.Ends.{Ends}
+use Rattle.wire_forms.specs.declared.greeting.Greeting.{Greeting}
+use Rattle.wire_forms.specs.declared.login_fault.LoginFault.{LoginFault}
 use Rattle.wire_forms.specs.declared.switch.Switch.{Switch}
 use Rattle.my_packets.proofs.Fronts.{same_packets}
 use Rattle.wire_forms.specs.Packet.{packets, packet_count, id_after}
@@ -24,10 +28,12 @@ use Rattle.my_session.proofs.Rests.{session_reply}
 use Rattle.my_session.specs.Awaited.{further_fault}
 use Rattle.my_session.specs.Heard.{IsDecision, Judges}
 use Rattle.my_session.specs.InStep.{Completes, ends, breaks_off, defines, has_row, Follows, WaitsRest, phase_after, IsQuiet, DecisionWaits, ReplyWaits, IsOpen, GreetingWaits}
+use Rattle.my_session.specs.Peer.{IsPeerOf, peer_of}
 use Rattle.my_session.specs.Serving.{IsServing, Stays, MessageWaits, Delivers, DeliversReply, DeliversRefusal, Replied}
 use Rattle.my_session.specs.Session.{failed_by, ends_session}
 use Rattle.my_session.specs.declared.fault.SessionFault.{SessionFault}
 use Rattle.my_session.specs.declared.fault.SessionFault.TheVariants.{Garbled}
+use Rattle.my_session.specs.declared.peer.Peer.{Peer}
 use Rattle.my_session.specs.declared.login.Decision.{Decision}
 use Rattle.my_session.specs.declared.login.Decision.TheVariants.{Accepted, Switched}
 
@@ -60,6 +66,10 @@ completes_begins reading (message ∷ []) (breaks_off is) = record { first = mes
 completes_begins reading (message ∷ messages) (defines is rest) = record { first = message; others = messages; messages_are = refl; rest = subst (λ (f : Further). RestAfter reading f messages) (sym is) rest }
 completes_begins reading (message ∷ messages) (has_row is rest) = record { first = message; others = messages; messages_are = refl; rest = subst (λ (f : Further). RestAfter reading f messages) (sym is) rest }
 
+-- a message is one greeting
+same_greeting : (read : Result Greeting LoginFault) (found other : Greeting) → read ≡ Ok found → read ≡ Ok other → found ≡ other
+same_greeting read found other is too = cc
+
 -- a fault at a message of a result set that doesn't end the session is an ERR
 refused_by : (form : Form) (place : ℕ) (turn : Further) (fault : SessionFault) → further_fault form place turn ≡ Some fault → ends_session fault ≡ false → (refusal : Refusal) × (turn ≡ refused refusal)
 refused_by form place definition fault is goes_on = absurd (cc)
@@ -82,13 +92,31 @@ module _ {L : Type 0} (of : Ghosts L) where
   decision_comes link id decision = first_waits id (of.served link).waiting decision.message [] (decision.message ∷ []) refl decision.waits
 
   -- where nothing is pending, nothing waits
-  pub open_idle : (link : L) (id : ℕ) → (of.served link).failed ≡ false → (of.served link).state.phase ≡ in_session → (of.served link).waiting ≡ [] → IsOpen of link id idle
-  open_idle link id alive phase none = record {
-    alive = alive;
-    phase = phase;
-    none = λ e. none;
+  pub open_idle : (link : L) (id : ℕ) (ending : Ends) → IsQuiet of in_session link → IsOpen of link id (idle ending)
+  open_idle link id ending quiet = record {
+    alive = quiet.alive;
+    phase = quiet.phase_is;
+    none = λ e. quiet.none;
     rest = λ some. absurd (omega arith);
   }
+
+  pub quiet_idle : (link : L) (id : ℕ) (reading : Reading) (ending : Ends) → reading ≡ idle ending → IsOpen of link id reading → IsQuiet of in_session link
+  quiet_idle link id reading ending is is_open = record {
+    alive = is_open.alive;
+    phase_is = is_open.phase;
+    none = is_open.none (ap (λ (r : Reading). r.columns) is);
+  }
+
+  -- the server stays what its greeting said
+  pub still_ends : (old new : L) (ending : Ends) → Stays of old new → (of.honest old → ending ≡ (of.served old).state.terms.server.ends) → of.honest new → ending ≡ (of.served new).state.terms.server.ends
+  still_ends old new ending stays so h =
+      let before = stays.honest.1 h in
+      so before ∙ sym (ap (λ (t : Terms). t.server.ends) (stays.terms before))
+
+  pub still_peer : (old new : L) (peer : Peer) → Stays of old new → (of.honest old → IsPeerOf (of.served old).state.terms.server peer) → of.honest new → IsPeerOf (of.served new).state.terms.server peer
+  still_peer old new peer stays so h =
+      let before = stays.honest.1 h in
+      subst (λ (t : Terms). IsPeerOf t.server peer) (sym (stays.terms before)) (so before)
 
   open_rest : (link : L) (id : ℕ) (reading : Reading) → (of.served link).failed ≡ false → (of.served link).state.phase ≡ in_session → 0 < reading.columns → WaitsRest reading id (of.served link).waiting → IsOpen of link id reading
   open_rest link id reading alive phase some rest = record {
@@ -100,15 +128,15 @@ module _ {L : Type 0} (of : Ghosts L) where
 
   module _ (old new : L) (id : ℕ) where
     -- a text is answered by a reply
-    pub said_text : (before : ℕ) (text payload : List ℕ) → payload ≡ query_payload text → IsOpen of old before idle → Replied of payload old new id → ReplyWaits of new id
-    said_text before text payload is is_open replied =
-        let told = session_reply plainly (of.served old).state text payload replied.messages (of.served new).state is_open.phase is replied.replies in
+    pub said_text : (text payload : List ℕ) → payload ≡ query_payload text → IsQuiet of in_session old → Replied of payload old new id → ReplyWaits of new id
+    said_text text payload is quiet replied =
+        let told = session_reply plainly (of.served old).state text payload replied.messages (of.served new).state quiet.phase_is is replied.replies in
         record {
           alive = replied.alive;
           phase = told.phase;
           messages = replied.messages;
           is_reply = told.is_reply;
-          waits = replied.waits ∙ ap (λ (l : List ℕ). l ++ packets_from id replied.messages) (is_open.none refl);
+          waits = replied.waits ∙ ap (λ (l : List ℕ). l ++ packets_from id replied.messages) quiet.none;
         }
 
     -- a login is answered by one message
@@ -145,22 +173,22 @@ module _ {L : Type 0} (of : Ghosts L) where
       first : IsNext waits.is_reply.first waits.is_reply.others
       first = next_is waits.is_reply.first waits.is_reply.others waits.messages waits.is_reply.messages_are waits.waits
 
-      follows : Follows reply waits.is_reply.others
-      follows = subst (λ (r : Option Reply). Follows r waits.is_reply.others) (ap (λ (l : List ℕ). reply_of l) (sym first.message_is) ∙ reply_is) waits.is_reply.follows
+      follows : Follows (of.served old).state.terms.server.ends reply waits.is_reply.others
+      follows = subst (λ (r : Option Reply). Follows (of.served old).state.terms.server.ends r waits.is_reply.others) (ap (λ (l : List ℕ). reply_of l) (sym first.message_is) ∙ reply_is) waits.is_reply.follows
 
-      alone : waits.is_reply.others ≡ [] → IsOpen of new now idle
-      alone none = open_idle new now delivers.gives.alive (still in_session waits.phase) (first.waits ∙ ap (λ (l : List (List ℕ)). packets_from now l) none)
+      alone : waits.is_reply.others ≡ [] → IsQuiet of in_session new
+      alone none = record { alive = delivers.gives.alive; phase_is = still in_session waits.phase; none = first.waits ∙ ap (λ (l : List (List ℕ)). packets_from now l) none }
 
-      heard_done : reply ≡ Some Done → IsOpen of new now idle
-      heard_done is = alone (subst (λ (r : Option Reply). Follows r waits.is_reply.others) is follows)
+      heard_done : reply ≡ Some Done → IsQuiet of in_session new
+      heard_done is = alone (subst (λ (r : Option Reply). Follows (of.served old).state.terms.server.ends r waits.is_reply.others) is follows)
 
-      heard_refusal : (refusal : Refusal) → reply ≡ Some (IsRefused refusal) → IsOpen of new now idle
-      heard_refusal refusal is = alone (subst (λ (r : Option Reply). Follows r waits.is_reply.others) is follows)
+      heard_refusal : (refusal : Refusal) → reply ≡ Some (IsRefused refusal) → IsQuiet of in_session new
+      heard_refusal refusal is = alone (subst (λ (r : Option Reply). Follows (of.served old).state.terms.server.ends r waits.is_reply.others) is follows)
 
-      heard_columns : (columns : ℕ) → reply ≡ Some (Columns columns) → 0 < columns → IsOpen of new now (columns_counted columns)
-      heard_columns columns is some = open_rest new now (columns_counted columns) delivers.gives.alive (still in_session waits.phase) some record {
+      heard_columns : (columns : ℕ) → reply ≡ Some (Columns columns) → 0 < columns → IsOpen of new now (columns_counted (of.served old).state.terms.server.ends columns)
+      heard_columns columns is some = open_rest new now (columns_counted (of.served old).state.terms.server.ends columns) delivers.gives.alive (still in_session waits.phase) some record {
         messages = waits.is_reply.others;
-        completes = subst (λ (r : Option Reply). Follows r waits.is_reply.others) is follows;
+        completes = subst (λ (r : Option Reply). Follows (of.served old).state.terms.server.ends r waits.is_reply.others) is follows;
         waits = first.waits;
       }
 
@@ -183,14 +211,14 @@ module _ {L : Type 0} (of : Ghosts L) where
       heard_row next cells same is = subst (λ (r : Reading). IsOpen of new now r) (sym same) (
           open_rest new now reading delivers.gives.alive (still in_session is_open.phase) some record { messages = begun.others; completes = rest (row cells) is; waits = heard.waits })
 
-      at_end : begun.others ≡ [] → IsOpen of new now idle
-      at_end none = open_idle new now delivers.gives.alive (still in_session is_open.phase) (heard.waits ∙ ap (λ (l : List (List ℕ)). packets_from now l) none)
+      at_end : (ending : Ends) → begun.others ≡ [] → IsOpen of new now (idle ending)
+      at_end ending none = open_idle new now ending record { alive = delivers.gives.alive; phase_is = still in_session is_open.phase; none = heard.waits ∙ ap (λ (l : List (List ℕ)). packets_from now l) none }
 
-      pub heard_end : (next : Reading) → next ≡ idle → further_of reading message ≡ end → IsOpen of new now next
-      heard_end next is_idle is = subst (λ (r : Reading). IsOpen of new now r) (sym is_idle) (at_end (rest end is))
+      pub heard_end : (next : Reading) (ending : Ends) → next ≡ idle ending → further_of reading message ≡ end → IsOpen of new now next
+      heard_end next ending is_idle is = subst (λ (r : Reading). IsOpen of new now r) (sym is_idle) (at_end ending (rest end is))
 
-      pub heard_break : (next : Reading) (refusal : Refusal) → next ≡ idle → further_of reading message ≡ refused refusal → IsOpen of new now next
-      heard_break next refusal is_idle is = subst (λ (r : Reading). IsOpen of new now r) (sym is_idle) (at_end (rest (refused refusal) is))
+      pub heard_break : (next : Reading) (ending : Ends) (refusal : Refusal) → next ≡ idle ending → further_of reading message ≡ refused refusal → IsOpen of new now next
+      heard_break next ending refusal is_idle is = subst (λ (r : Reading). IsOpen of new now r) (sym is_idle) (at_end ending (rest (refused refusal) is))
 
     -- after the answer to a login
     module _ (waits : DecisionWaits of old id) where
@@ -219,7 +247,7 @@ module _ {L : Type 0} (of : Ghosts L) where
 
   -- what a command leaves
   module _ (old new : L) (id now : ℕ) (serving : IsServing of old) (waits : ReplyWaits of old id) where
-    pub answered : (result : Result (Unit {0}) SessionFault) → OnOk result (IsServing of old → DeliversReply of (Some Done) old id new now) → IfErr result (λ fault. ends_session fault ≡ false → IsServing of old → DeliversRefusal of old id new now) → failed_by result ≡ false → IsOpen of new now idle
+    pub answered : (result : Result (Unit {0}) SessionFault) → OnOk result (IsServing of old → DeliversReply of (Some Done) old id new now) → IfErr result (λ fault. ends_session fault ≡ false → IsServing of old → DeliversRefusal of old id new now) → failed_by result ≡ false → IsQuiet of in_session new
     answered (Ok finished) says refuses goes_on =
         let reply = says serving in
         heard_done old new id now reply.message reply.delivers (Some Done) reply.reply_is waits refl
@@ -229,13 +257,14 @@ module _ {L : Type 0} (of : Ghosts L) where
 
   -- what hearing the number of columns leaves
   module _ (old new : L) (id now : ℕ) (stays : Stays of old new) (waits : of.honest old → ReplyWaits of old id) (reply : Option Reply) (heard : IsServing of old → DeliversReply of reply old id new now) where
-    pub count_heard : (columns : ℕ) → reply ≡ Some (Columns columns) → 0 < columns → of.honest new → IsOpen of new now (columns_counted columns)
-    count_heard columns is some h =
+    pub count_heard : (ending : Ends) → (of.honest old → ending ≡ (of.served old).state.terms.server.ends) → (columns : ℕ) → reply ≡ Some (Columns columns) → 0 < columns → of.honest new → IsOpen of new now (columns_counted ending columns)
+    count_heard ending so columns is some h =
         let before = waits (stays.honest.1 h) in
         let told = heard (record { honest = stays.honest.1 h; alive = before.alive }) in
-        heard_columns old new id now told.message told.delivers reply told.reply_is before columns is some
+        subst (λ (e : Ends). IsOpen of new now (columns_counted e columns)) (sym (so (stays.honest.1 h)))
+        (heard_columns old new id now told.message told.delivers reply told.reply_is before columns is some)
 
-    pub count_refused : (refusal : Refusal) → reply ≡ Some (IsRefused refusal) → of.honest new → IsOpen of new now idle
+    pub count_refused : (refusal : Refusal) → reply ≡ Some (IsRefused refusal) → of.honest new → IsQuiet of in_session new
     count_refused refusal is h =
         let before = waits (stays.honest.1 h) in
         let told = heard (record { honest = stays.honest.1 h; alive = before.alive }) in
@@ -248,21 +277,21 @@ module _ {L : Type 0} (of : Ghosts L) where
         let before = waits (stays.honest.1 h) in
         heard_definition old new id now message (heard (record { honest = stays.honest.1 h; alive = before.alive })) reading some before next next_is is
 
-    pub row_heard : (form : Form) (place : ℕ) (next : Reading) (result : Result Bool SessionFault) → Judges reading form message place result next → failed_by result ≡ false → of.honest new → IsOpen of new now next
-    row_heard form place next (Ok true) judges goes_on h =
+    pub row_heard : (ending : Ends) (form : Form) (place : ℕ) (next : Reading) (result : Result Bool SessionFault) → Judges ending reading form message place result next → failed_by result ≡ false → of.honest new → IsOpen of new now next
+    row_heard ending form place next (Ok true) judges goes_on h =
         let before = waits (stays.honest.1 h) in
         heard_row old new id now message (heard (record { honest = stays.honest.1 h; alive = before.alive })) reading some before next judges.0.cells judges.1 judges.0.is
-    row_heard form place next (Ok false) judges goes_on h =
+    row_heard ending form place next (Ok false) judges goes_on h =
         let before = waits (stays.honest.1 h) in
-        heard_end old new id now message (heard (record { honest = stays.honest.1 h; alive = before.alive })) reading some before next judges.1 judges.0
-    row_heard form place next (Err fault) judges goes_on h =
+        heard_end old new id now message (heard (record { honest = stays.honest.1 h; alive = before.alive })) reading some before next ending judges.1 judges.0
+    row_heard ending form place next (Err fault) judges goes_on h =
         let before = waits (stays.honest.1 h) in
         let refusal = refused_by form place (further_of reading message) fault judges.0 goes_on in
-        heard_break old new id now message (heard (record { honest = stays.honest.1 h; alive = before.alive })) reading some before next refusal.0 judges.1 refusal.1
+        heard_break old new id now message (heard (record { honest = stays.honest.1 h; alive = before.alive })) reading some before next ending refusal.0 judges.1 refusal.1
 
   -- on a new link the greeting waits
   pub new_link_greets : (link : L) (site : ServedSite) (sole : Bool) → IsNewLink site sole (of.served link) → GreetingWaits of link
-  new_link_greets link site sole is_new = record { phase = ap (λ (s : State). s.phase) is_new.state_is; greeting = is_new.greeting; greets = subst (λ (b : Bool). IsGreeting b is_new.greeting) (sym (ap (λ (s : State). s.terms.willing) is_new.state_is)) is_new.greets; waits = is_new.waits }
+  new_link_greets link site sole is_new = record { phase = ap (λ (s : State). s.phase) is_new.state_is; greeting = is_new.greeting; greets = subst (λ (s : Server). IsGreeting s is_new.greeting) (sym (ap (λ (s : State). s.terms.server) is_new.state_is)) is_new.greets; waits = is_new.waits }
 
   -- what hearing the greeting leaves
   pub greeting_comes : (link : L) (id : ℕ) → id ≡ 0 → (IsServing of link → GreetingWaits of link) → IsServing of link → MessageWaits id (of.served link).waiting
@@ -274,6 +303,23 @@ module _ {L : Type 0} (of : Ghosts L) where
   greeting_heard old new id now message first_id waits alive heard h =
       let serving : IsServing of old = record { honest = h; alive = alive h } in
       heard_greeting old new id now message (heard serving) first_id (waits serving)
+
+  -- what the greeting says is what the server is
+  module _ (old new : L) (id now : ℕ) (message : List ℕ) where
+    greeting_says : (found : Greeting) → Delivers of message old id new now → id ≡ 0 → GreetingWaits of old → greeting_of message ≡ Ok found → IsPeerOf (of.served new).state.terms.server (peer_of found)
+    greeting_says found delivers first_id waits read =
+        let only = next_is old new id now message delivers waits.greeting [] (waits.greeting ∷ []) refl (waits.waits ∙ ap (λ (n : ℕ). packets n waits.greeting) (sym first_id) ∙ sym (append-nil (packets id waits.greeting))) in
+        let same : found ≡ waits.greets.found = same_greeting (greeting_of message) found waits.greets.found read (ap (λ (l : List ℕ). greeting_of l) only.message_is ∙ waits.greets.says) in
+        let server : (of.served new).state.terms.server ≡ (of.served old).state.terms.server = ap (λ (s : State). s.terms.server) delivers.gives.state in
+        record {
+          ends = ap (λ (f : Greeting). f.ends) same ∙ waits.greets.ends ∙ sym (ap (λ (s : Server). s.ends) server);
+          newer = ap (λ (f : Greeting). f.newer) same ∙ waits.greets.newer ∙ sym (ap (λ (s : Server). s.newer) server);
+        }
+
+    pub greeting_tells : (payload : List ℕ) (found : Greeting) → id ≡ 0 → (IsServing of old → GreetingWaits of old) → (of.honest old → (of.served old).failed ≡ false) → (IsServing of old → Delivers of message old id new now) → payload ≡ message → greeting_of payload ≡ Ok found → of.honest old → IsPeerOf (of.served new).state.terms.server (peer_of found)
+    greeting_tells payload found first_id waits alive heard is read h =
+        let serving : IsServing of old = record { honest = h; alive = alive h } in
+        greeting_says found (heard serving) first_id (waits serving) (ap (λ (l : List ℕ). greeting_of l) (sym is) ∙ read)
 
   -- what hearing the answer to a login leaves
   module _ (old new : L) (id now : ℕ) (stays : Stays of old new) (waits : of.honest old → DecisionWaits of old id) where

@@ -12,10 +12,10 @@ use Rattle.statement_forms.specs.Insert.{AnyInsert}
 use Rattle.statement_forms.specs.Statement.{CommandHasText}
 use Rattle.statement_forms.specs.Text.{command_text, query_text}
 use Rattle.statement_forms.specs.declared.command.Command.{Command}
-use Rattle.statement_forms.specs.declared.command.Command.TheVariants.{SetUp, NamesUtf8mb4, NamesBinary, ForeignKeyChecksOff, TimeZoneUtc, BinaryLogOff, SqlMode, CharacterSetClient, CollationConnection, RepeatableRead, LockInstance, FlushTables, UnlockTables, UnlockInstance, StartSnapshot, Start, Commit, Rollback, Use, Create, CreateProgress, CreateProgressFiles, CreateProgressDump, Insert, InsertProgressFile, InsertProgressDump}
+use Rattle.statement_forms.specs.declared.command.Command.TheVariants.{SetUp, NamesUtf8mb4, NamesBinary, ForeignKeyChecksOff, TimeZoneUtc, BinaryLogOff, SqlMode, CharacterSetClient, CollationConnection, RepeatableRead, TimeZone, LockInstance, FlushTables, UnlockTables, UnlockInstance, StartSnapshot, Start, Commit, Rollback, Use, Create, CreateProgress, CreateProgressFiles, CreateProgressDump, Insert, InsertProgressFile, InsertProgressDump}
 use Rattle.statement_forms.specs.declared.form.Form.TheVariants.{Create as CreateForm}
 use Rattle.statement_forms.specs.declared.query.Query.{Query}
-use Rattle.statement_forms.specs.declared.query.Query.TheVariants.{MasterStatus, Schemas, Tables, Columns, PrimaryKey, Triggers, Routines, ViewNeeds, CreateDatabase, CreateTable, CreateView, CreateProcedure, CreateFunction, CreateTrigger, Key, KeyAbove, Rows, RowsByKey, RowsAbove, RowsUpTo, RowsBetween, ProgressDump, ProgressFiles}
+use Rattle.statement_forms.specs.declared.query.Query.TheVariants.{MasterStatus, BinaryLogStatus, Schemas, Tables, Columns, PrimaryKey, Triggers, Routines, ViewNeeds, Events, CreateDatabase, CreateTable, CreateView, CreateProcedure, CreateFunction, CreateTrigger, CreateEvent, Key, KeyAbove, Rows, RowsByKey, RowsAbove, RowsUpTo, RowsBetween, WideKey, WideKeyAbove, RowsByWideKey, RowsAboveWide, RowsUpToWide, RowsBetweenWide, ProgressDump, ProgressFiles}
 use Rattle.my_session.specs.InStep.{MakesNothing}
 use Rattle.my_session.specs.Serving.{MakesNoObject}
 
@@ -47,6 +47,7 @@ makes_nothing (SqlMode value) has other = starts_otherwise 83 _ refl
 makes_nothing (CharacterSetClient value) has other = starts_otherwise 83 _ refl
 makes_nothing (CollationConnection value) has other = starts_otherwise 83 _ refl
 makes_nothing RepeatableRead has other = starts_otherwise 83 _ refl
+makes_nothing (TimeZone value) has other = starts_otherwise 83 _ refl
 makes_nothing LockInstance has other = starts_otherwise 76 _ refl
 makes_nothing FlushTables has other = starts_otherwise 70 _ refl
 makes_nothing UnlockTables has other = starts_otherwise 85 _ refl
@@ -67,6 +68,7 @@ makes_nothing (InsertProgressDump digest) has other = starts_otherwise 73 _ refl
 asks_nothing : (query : Query) → HasHead (query_text query) → ⊥
 unfolding query_text
 asks_nothing MasterStatus = starts_otherwise 83 _ refl
+asks_nothing BinaryLogStatus = starts_otherwise 83 _ refl
 asks_nothing Schemas = starts_otherwise 83 _ refl
 asks_nothing (Tables schema) = starts_otherwise 83 _ refl
 asks_nothing (Columns schema table) = starts_otherwise 83 _ refl
@@ -74,12 +76,14 @@ asks_nothing (PrimaryKey schema table) = starts_otherwise 83 _ refl
 asks_nothing (Triggers schema) = starts_otherwise 83 _ refl
 asks_nothing (Routines schema) = starts_otherwise 83 _ refl
 asks_nothing (ViewNeeds schema) = starts_otherwise 83 _ refl
+asks_nothing (Events schema) = starts_otherwise 83 _ refl
 asks_nothing (CreateDatabase schema) = starts_otherwise 83 _ refl
 asks_nothing (CreateTable schema name) = starts_otherwise 83 _ refl
 asks_nothing (CreateView schema name) = starts_otherwise 83 _ refl
 asks_nothing (CreateProcedure schema name) = starts_otherwise 83 _ refl
 asks_nothing (CreateFunction schema name) = starts_otherwise 83 _ refl
 asks_nothing (CreateTrigger schema name) = starts_otherwise 83 _ refl
+asks_nothing (CreateEvent schema name) = starts_otherwise 83 _ refl
 asks_nothing (Key key schema table skipped) = starts_otherwise 83 _ refl
 asks_nothing (KeyAbove key schema table above skipped) = starts_otherwise 83 _ refl
 asks_nothing (Rows columns schema table) = starts_otherwise 83 _ refl
@@ -87,6 +91,12 @@ asks_nothing (RowsByKey columns schema table key) = starts_otherwise 83 _ refl
 asks_nothing (RowsAbove columns schema table key above) = starts_otherwise 83 _ refl
 asks_nothing (RowsUpTo columns schema table key up_to) = starts_otherwise 83 _ refl
 asks_nothing (RowsBetween columns schema table key above up_to) = starts_otherwise 83 _ refl
+asks_nothing (WideKey keys schema table skipped) = starts_otherwise 83 _ refl
+asks_nothing (WideKeyAbove keys schema table above skipped) = starts_otherwise 83 _ refl
+asks_nothing (RowsByWideKey columns schema table keys) = starts_otherwise 83 _ refl
+asks_nothing (RowsAboveWide columns schema table keys above) = starts_otherwise 83 _ refl
+asks_nothing (RowsUpToWide columns schema table keys up_to) = starts_otherwise 83 _ refl
+asks_nothing (RowsBetweenWide columns schema table keys above up_to) = starts_otherwise 83 _ refl
 asks_nothing ProgressDump = starts_otherwise 83 _ refl
 asks_nothing ProgressFiles = starts_otherwise 83 _ refl
 

@@ -2,6 +2,7 @@
 use Rattle.std.specs.Prelude.{ℕ, ◌≡◌, ◌<◌, Bool, true, false, List, [], ◌∷◌, ◌++◌, Option, Some, None, Result, Ok, Err}
 use Rattle.wire_forms.specs.Greeting.{greeting_of}
 use Rattle.wire_forms.specs.Switch.{switch_of}
+use Rattle.wire_forms.specs.declared.ends.Ends.{Ends}
 use Rattle.wire_forms.specs.declared.greeting.Greeting.{Greeting}
 use Rattle.wire_forms.specs.declared.switch.Switch.{Switch}
 use Rattle.wire_forms.specs.Reading.{Reading, definition, row, end, idle, columns_counted, further_of}
@@ -13,6 +14,7 @@ use Rattle.statement_forms.specs.declared.form.Form.{Form}
 use Rattle.my_session.specs.Awaited.{decision, fault_at, further_fault}
 use Rattle.my_session.specs.Login.{IsGreeted}
 use Rattle.my_session.specs.Wire.{Wire, Step, hears, Hears}
+use Rattle.my_session.specs.declared.peer.Peer.{Peer}
 use Rattle.my_session.specs.declared.fault.SessionFault.{SessionFault}
 use Rattle.my_session.specs.declared.login.Decision.{Decision}
 use Rattle.my_session.specs.declared.login.Decision.TheVariants.{Accepted, Switched}
@@ -23,12 +25,12 @@ pub record HearsReply (reply : Option Reply) (old new : Wire) : Type 0 where
   pub heard : Hears message old new
   pub reply_is : reply_of message ≡ reply
 
--- where a reader is after a reply's first message
-abbrev pub reading_of : Option Reply → Reading
-reading_of None = idle
-reading_of (Some Done) = idle
-reading_of (Some (Refused refusal)) = idle
-reading_of (Some (Columns columns)) = columns_counted columns
+-- where a reader is after a reply's first message, where result sets end so
+abbrev pub reading_of : Ends → Option Reply → Reading
+reading_of ends None = idle ends
+reading_of ends (Some Done) = idle ends
+reading_of ends (Some (Refused refusal)) = idle ends
+reading_of ends (Some (Columns columns)) = columns_counted ends columns
 
 -- a result set has from 1 to 65,535 columns
 abbrev pub HasColumns : Option Reply → Type 0
@@ -55,15 +57,15 @@ pub record HearsDecision (found : Decision) (old new : Wire) : Type 0 where
   pub is : IsDecision found message
 
 -- the server asked for an answer over the scramble of this request
-pub record IsAskedToSwitch (user password : List ℕ) (found : Switch) (steps : List Step) : Type 0 where
+pub record IsAskedToSwitch (user password : List ℕ) (peer : Peer) (found : Switch) (steps : List Step) : Type 0 where
   pub before : List Step
-  pub greeted : IsGreeted user password before
+  pub greeted : IsGreeted user password peer before
   pub message : List ℕ
   pub goes_on : fault_at decision 0 message ≡ None
   pub read : switch_of message ≡ Ok found
   pub steps_are : steps ≡ before ++ hears message ∷ []
 
--- a column definition was heard, or the EOF after the definitions
+-- one of the messages before the rows was heard: a column definition, or the EOF after the definitions
 pub record HearsDefinition (reading : Reading) (old new : Wire) : Type 0 where
   pub message : List ℕ
   pub heard : Hears message old new
@@ -75,12 +77,12 @@ pub record IsRowOf (reading : Reading) (message : List ℕ) : Type 0 where
   pub cells_are : cells_of reading.columns message ≡ Some cells
   pub is : further_of reading message ≡ row cells
 
--- whether a message in the place of a row is one, or else the end, and where the reader is after it
-abbrev pub IsAfterRow : Reading → List ℕ → Bool → Reading → Type 0
-IsAfterRow old message true new = IsRowOf old message × (new ≡ old)
-IsAfterRow old message false new = (further_of old message ≡ end) × (new ≡ idle)
+-- whether a message in the place of a row is one, or else the end, and where the reader is after it, where result sets end so
+abbrev pub IsAfterRow : Ends → Reading → List ℕ → Bool → Reading → Type 0
+IsAfterRow ends old message true new = IsRowOf old message × (new ≡ old)
+IsAfterRow ends old message false new = (further_of old message ≡ end) × (new ≡ idle ends)
 
 -- what is answered to a message in the place of a row, which began at this place, and where the reader is after it
-abbrev pub Judges : Reading → Form → List ℕ → ℕ → Result Bool SessionFault → Reading → Type 0
-Judges old form message place (Ok is_row) new = IsAfterRow old message is_row new
-Judges old form message place (Err fault) new = (further_fault form place (further_of old message) ≡ Some fault) × (new ≡ idle)
+abbrev pub Judges : Ends → Reading → Form → List ℕ → ℕ → Result Bool SessionFault → Reading → Type 0
+Judges ends old form message place (Ok is_row) new = IsAfterRow ends old message is_row new
+Judges ends old form message place (Err fault) new = (further_fault form place (further_of old message) ≡ Some fault) × (new ≡ idle ends)

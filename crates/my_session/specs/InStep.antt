@@ -4,6 +4,7 @@ use Rattle.honest_server.specs.Exchange.{IsGreeting, packets_from}
 use Rattle.honest_server.specs.State.{Phase, greeted, switching, in_session}
 use Rattle.link_traits.specs.declared.link.Link.{Ghosts}
 use Rattle.wire_forms.specs.Switch.{switch_of}
+use Rattle.wire_forms.specs.declared.ends.Ends.{Ends}
 use Rattle.wire_forms.specs.declared.switch.Switch.{Switch}
 use Rattle.wire_forms.specs.Packet.{packets}
 use Rattle.object_forms.specs.Head.{HasHead}
@@ -15,11 +16,12 @@ use Rattle.wire_forms.specs.declared.reply.Reply.TheVariants.{Done, Refused, Col
 use Rattle.wire_forms.specs.declared.refusal.Refusal.{Refusal}
 use Rattle.statement_forms.specs.Text.{command_text}
 use Rattle.statement_forms.specs.declared.command.Command.{Command}
+use Rattle.my_session.specs.Peer.{IsPeerOf}
 use Rattle.my_session.specs.Session.{SessionView}
 use Rattle.my_session.specs.declared.login.Decision.{Decision}
 use Rattle.my_session.specs.declared.login.Decision.TheVariants.{Accepted, Switched}
 
--- the messages are the rest of a result set for a reader that is here: column definitions, rows, and an EOF or an ERR at the end
+-- the messages are the rest of a result set for a reader that is here: those before the rows, rows, and the end or an ERR
 pub data Completes : Reading → List (List ℕ) → Type 0 where
   ends : {reading : Reading} {message : List ℕ} → further_of reading message ≡ end → Completes reading (message ∷ [])
   breaks_off : {reading : Reading} {message : List ℕ} {refusal : Refusal} → further_of reading message ≡ refused refusal → Completes reading (message ∷ [])
@@ -32,19 +34,19 @@ pub record WaitsRest (reading : Reading) (id : ℕ) (waiting : List ℕ) : Type 
   pub completes : Completes reading messages
   pub waits : waiting ≡ packets_from id messages
 
--- what follows a reply's first message: nothing after an OK or an ERR
-abbrev pub Follows : Option Reply → List (List ℕ) → Type 0
-Follows None others = ⊥
-Follows (Some Done) others = others ≡ []
-Follows (Some (Refused refusal)) others = others ≡ []
-Follows (Some (Columns columns)) others = Completes (columns_counted columns) others
+-- what follows a reply's first message, where result sets end so: nothing after an OK or an ERR
+abbrev pub Follows : Ends → Option Reply → List (List ℕ) → Type 0
+Follows ending None others = ⊥
+Follows ending (Some Done) others = others ≡ []
+Follows ending (Some (Refused refusal)) others = others ≡ []
+Follows ending (Some (Columns columns)) others = Completes (columns_counted ending columns) others
 
 -- the messages are a whole reply
-pub record IsReply (messages : List (List ℕ)) : Type 0 where
+pub record IsReply (ending : Ends) (messages : List (List ℕ)) : Type 0 where
   pub first : List ℕ
   pub others : List (List ℕ)
   pub messages_are : messages ≡ first ∷ others
-  pub follows : Follows (reply_of first) others
+  pub follows : Follows ending (reply_of first) others
 
 -- where a link is after a decision
 abbrev pub phase_after : Decision → Phase
@@ -72,7 +74,7 @@ module _ {L : Type 0} (of : Ghosts L) where
     pub alive : (of.served link).failed ≡ false
     pub phase : (of.served link).state.phase ≡ in_session
     pub messages : List (List ℕ)
-    pub is_reply : IsReply messages
+    pub is_reply : IsReply (of.served link).state.terms.server.ends messages
     pub waits : (of.served link).waiting ≡ packets_from id messages
 
   -- the link is in a session that is open, and the rest of what is pending waits, from this id on: where nothing is pending, nothing
@@ -82,15 +84,16 @@ module _ {L : Type 0} (of : Ghosts L) where
     pub none : reading.columns ≡ 0 → (of.served link).waiting ≡ []
     pub rest : 0 < reading.columns → WaitsRest reading id (of.served link).waiting
 
-  -- a session that hasn't failed is in step with an honest server
-  abbrev pub IsInStep : SessionView L → Type 0
-  IsInStep session = of.honest session.link → session.has_failed ≡ false → IsOpen session.link session.id session.pending.reading
+  -- a session is in step with an honest server: the server is what its greeting said, and the link is open as long as the session hasn't failed
+  pub record IsInStep (session : SessionView L) : Type 0 where
+    pub peer : of.honest session.link → IsPeerOf (of.served session.link).state.terms.server session.peer
+    pub is_open : of.honest session.link → session.has_failed ≡ false → IsOpen session.link session.id session.pending.reading
 
   -- a link on which the greeting waits, and nothing else
   pub record GreetingWaits (link : L) : Type 0 where
     pub phase : (of.served link).state.phase ≡ greeted
     pub greeting : List ℕ
-    pub greets : IsGreeting (of.served link).state.terms.willing greeting
+    pub greets : IsGreeting (of.served link).state.terms.server greeting
     pub waits : (of.served link).waiting ≡ packets 0 greeting
 
 -- the command makes no object

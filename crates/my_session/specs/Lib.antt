@@ -5,6 +5,7 @@ pub mod Receiving
 pub mod Awaited
 pub mod Halt
 pub mod Statements
+pub mod Peer
 pub mod Login
 pub mod Heard
 pub mod Lead

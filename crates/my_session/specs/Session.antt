@@ -4,6 +4,7 @@ use Rattle.link_traits.specs.Cause.{Rose}
 use Rattle.link_traits.specs.Link.{stream}
 use Rattle.link_traits.specs.declared.link.Link.{Ghosts}
 use Rattle.wire_forms.specs.Reading.{Reading, row, end, idle, further_of}
+use Rattle.wire_forms.specs.declared.ends.Ends.{Ends}
 use Rattle.result_rows.specs.RowCells.{row_cells}
 use Rattle.result_rows.specs.declared.row.Row.{Row}
 use Rattle.statement_forms.specs.Form.{query_form}
@@ -15,6 +16,7 @@ use Rattle.my_session.specs.Halt.{Halts, Stops}
 use Rattle.my_session.specs.Statements.{IsRun, RunAwaits, RunSends, IsDescribed, QueryAwaits, QuerySends}
 use Rattle.my_session.specs.Login.{IsLoggedIn, LoginAwaits, LoginSends}
 use Rattle.my_session.specs.Wire.{Wire, Takes, Hears, IsOnward}
+use Rattle.my_session.specs.declared.peer.Peer.{Peer}
 use Rattle.my_session.specs.declared.fault.SessionFault.{SessionFault}
 use Rattle.my_session.specs.declared.fault.SessionFault.TheVariants.{Link, Refused, NotProtocol10, PluginUnsupported}
 
@@ -23,15 +25,17 @@ pub record Pending : Type 0 where
   pub reading : Reading
   pub form : Form
 
--- rows are awaited of so many columns
-abbrev pub rows_of : ℕ → Reading
-rows_of columns = record { columns = columns; awaited = 0 }
+-- rows are awaited of so many columns, where result sets end so
+abbrev pub rows_of : Ends → ℕ → Reading
+rows_of ends columns = record { columns = columns; awaited = 0; ends = ends }
 
--- a session: its link, how many bytes were heard on it, the sequence id of the next packet, whether it has failed, and what is pending
+-- a session: its link, how many bytes were heard on it, the sequence id of the next packet, what the greeting said of the server,
+-- whether the session has failed, and what is pending
 pub record SessionView (L : Type 0) : Type 0 where
   pub link : L
   pub place : ℕ
   pub id : ℕ
+  pub peer : Peer
   pub has_failed : Bool
   pub pending : Pending
 
@@ -70,15 +74,15 @@ abbrev pub Runs : Command → Wire → Result (Unit {0}) SessionFault → Wire �
 Runs command old (Ok done) new = Takes (IsRun command) old new
 Runs command old (Err fault) new = Stops (RunAwaits command) (RunSends command) old fault new
 
--- what asking a query does
-abbrev pub Asks : Query → Wire → Result ℕ SessionFault → Wire → Type 0
-Asks query old (Ok columns) new = Takes (λ steps. IsDescribed query steps (rows_of columns)) old new
-Asks query old (Err fault) new = Stops (QueryAwaits query) (QuerySends query) old fault new
+-- what asking a query does, where result sets end so
+abbrev pub Asks : Ends → Query → Wire → Result ℕ SessionFault → Wire → Type 0
+Asks ends query old (Ok columns) new = Takes (λ steps. IsDescribed query steps (rows_of ends columns)) old new
+Asks ends query old (Err fault) new = Stops (QueryAwaits ends query) (QuerySends query) old fault new
 
 -- what is pending after a query
-abbrev pub PendingAfter : Query → Result ℕ SessionFault → Pending → Type 0
-PendingAfter query (Ok columns) pending = pending ≡ record { reading = rows_of columns; form = query_form query }
-PendingAfter query (Err fault) pending = pending.reading ≡ idle
+abbrev pub PendingAfter : Ends → Query → Result ℕ SessionFault → Pending → Type 0
+PendingAfter ends query (Ok columns) pending = pending ≡ record { reading = rows_of ends columns; form = query_form query }
+PendingAfter ends query (Err fault) pending = pending.reading ≡ idle ends
 
 -- the next message was heard and is a row with these cells
 pub record HearsRow (reading : Reading) (found : Row) (old new : Wire) : Type 0 where
@@ -100,20 +104,22 @@ TakesRow pending old (Ok None) new = HearsEnd pending.reading old new
 TakesRow pending old (Err fault) new = Halts (further pending.form pending.reading) old fault new
 
 -- what is pending after it
-abbrev pub PendingAfterRow : Pending → Result (Option Row) SessionFault → Pending → Type 0
-PendingAfterRow old (Ok (Some found)) new = new ≡ old
-PendingAfterRow old (Ok None) new = new.reading ≡ idle
-PendingAfterRow old (Err fault) new = new.reading ≡ idle
+abbrev pub PendingAfterRow : Ends → Pending → Result (Option Row) SessionFault → Pending → Type 0
+PendingAfterRow ends old (Ok (Some found)) new = new ≡ old
+PendingAfterRow ends old (Ok None) new = new.reading ≡ idle ends
+PendingAfterRow ends old (Err fault) new = new.reading ≡ idle ends
 
 -- a row and the end of the rows take bytes off the link, whether it tells or not
 abbrev pub MovesOn : ℕ → Result (Option Row) SessionFault → ℕ → Type 0
 MovesOn old (Ok found) new = IsOnward old new
 MovesOn old (Err fault) new = Unit {0}
 
--- what a reader of rows says of one: whether it tells what goes over its link, that, its faults, whether it has failed, what is pending
+-- what a reader of rows says of one: what goes over its link, its faults, what the greeting said of the server, whether it has failed,
+-- and what is pending
 pub record ReaderView : Type 0 where
   pub wire : Wire
   pub faults : ℕ
+  pub peer : Peer
   pub has_failed : Bool
   pub pending : Pending
 
@@ -121,8 +127,9 @@ pub record ReaderView : Type 0 where
 pub record NextRow (tells : Type 0) (old : ReaderView) (result : Result (Option Row) SessionFault) (tells_still : Type 0) (new : ReaderView) : Type 0 where
   pub still : tells ↔ tells_still
   pub counted : IsCounted old.faults new.faults result
+  pub peer : new.peer ≡ old.peer
   pub has_failed : new.has_failed ≡ failed_by result
-  pub pending : PendingAfterRow old.pending result new.pending
+  pub pending : PendingAfterRow old.peer.ends old.pending result new.pending
   pub onward : MovesOn old.wire.place result new.wire.place
   pub takes : tells → TakesRow old.pending old.wire result new.wire
 
@@ -136,8 +143,8 @@ module _ {L : Type 0} (of : Ghosts L) where
     pub tells : of.tells link ↔ of.tells session.link
     pub later : of.faults link ≤ of.faults session.link
     pub alive : session.has_failed ≡ false
-    pub idle : session.pending.reading ≡ idle
-    pub takes : of.tells link → Takes (IsLoggedIn user password) (fresh link) (wire_of of session)
+    pub idle : session.pending.reading ≡ idle session.peer.ends
+    pub takes : of.tells link → Takes (IsLoggedIn user password session.peer) (fresh link) (wire_of of session)
 
   -- the wire of a link that was given back
   pub record IsWireOf (link : L) (wire : Wire) : Type 0 where

@@ -1,15 +1,16 @@
 -- Statements and their replies (MySQL source documentation, COM_QUERY, COM_QUERY Response, ProtocolText::Resultset).
-use Rattle.std.specs.Prelude.{ℕ, ◌≡◌, ◌+◌, ◌-◌, List, [], ◌∷◌, ◌++◌, length, map, replicate, Some}
-use Rattle.wire_forms.specs.Reading.{Reading, definition, columns_counted}
+use Rattle.std.specs.Prelude.{ℕ, ◌≡◌, ◌-◌, List, [], ◌∷◌, ◌++◌, length, map, replicate, Some}
+use Rattle.wire_forms.specs.Reading.{Reading, definition, awaited_count, columns_counted}
 use Rattle.wire_forms.specs.Reply.{reply_of}
 use Rattle.wire_forms.specs.ResultSet.{turns_of}
+use Rattle.wire_forms.specs.declared.ends.Ends.{Ends}
 use Rattle.wire_forms.specs.declared.reply.Reply.TheVariants.{Done, Columns}
 use Rattle.statement_forms.specs.Form.{command_form, query_form}
 use Rattle.statement_forms.specs.Text.{command_text, query_text}
 use Rattle.statement_forms.specs.declared.command.Command.{Command}
 use Rattle.statement_forms.specs.declared.command.Command.TheVariants.{Use}
 use Rattle.statement_forms.specs.declared.query.Query.{Query}
-use Rattle.statement_forms.specs.declared.query.Query.TheVariants.{CreateTable, CreateView, CreateProcedure, CreateFunction, CreateTrigger}
+use Rattle.statement_forms.specs.declared.query.Query.TheVariants.{CreateTable, CreateView, CreateProcedure, CreateFunction, CreateTrigger, CreateEvent}
 use Rattle.my_session.specs.Awaited.{Awaited, done, count, further}
 use Rattle.my_session.specs.Wire.{Step, commands, hears}
 
@@ -43,6 +44,7 @@ IsLed (CreateView schema name) steps = IsRun (Use schema) steps
 IsLed (CreateProcedure schema name) steps = IsRun (Use schema) steps
 IsLed (CreateFunction schema name) steps = IsRun (Use schema) steps
 IsLed (CreateTrigger schema name) steps = IsRun (Use schema) steps
+IsLed (CreateEvent schema name) steps = IsRun (Use schema) steps
 IsLed query steps = steps ≡ []
 
 abbrev pub LeadAwaits : Query → List Step → Awaited → Type 0
@@ -51,6 +53,7 @@ LeadAwaits (CreateView schema name) steps awaited = RunAwaits (Use schema) steps
 LeadAwaits (CreateProcedure schema name) steps awaited = RunAwaits (Use schema) steps awaited
 LeadAwaits (CreateFunction schema name) steps awaited = RunAwaits (Use schema) steps awaited
 LeadAwaits (CreateTrigger schema name) steps awaited = RunAwaits (Use schema) steps awaited
+LeadAwaits (CreateEvent schema name) steps awaited = RunAwaits (Use schema) steps awaited
 LeadAwaits query steps awaited = ⊥
 
 abbrev pub LeadSends : Query → List Step → List ℕ → Type 0
@@ -59,6 +62,7 @@ LeadSends (CreateView schema name) steps payload = RunSends (Use schema) steps p
 LeadSends (CreateProcedure schema name) steps payload = RunSends (Use schema) steps payload
 LeadSends (CreateFunction schema name) steps payload = RunSends (Use schema) steps payload
 LeadSends (CreateTrigger schema name) steps payload = RunSends (Use schema) steps payload
+LeadSends (CreateEvent schema name) steps payload = RunSends (Use schema) steps payload
 LeadSends query steps payload = ⊥
 
 -- the query was sent
@@ -67,7 +71,7 @@ pub record IsAsked (query : Query) (steps : List Step) : Type 0 where
   pub led : IsLed query before
   pub steps_are : steps ≡ before ++ commands (query_payload (query_text query)) ∷ []
 
--- the number of columns was heard, and so many of the messages after it, column definitions and their EOF, that the reader is here
+-- the number of columns was heard, and so many of the messages before the rows that the reader is here
 pub record IsDescribed (query : Query) (steps : List Step) (reading : Reading) : Type 0 where
   pub before : List Step
   pub asked : IsAsked query before
@@ -75,15 +79,15 @@ pub record IsDescribed (query : Query) (steps : List Step) (reading : Reading) :
   pub others : List (List ℕ)
   pub columns : ℕ
   pub reply : reply_of first ≡ Some (Columns columns)
-  pub turns : turns_of (columns_counted columns) others ≡ replicate (length others) definition
-  pub reading_is : reading ≡ record { columns = columns; awaited = columns + 1 - length others }
+  pub turns : turns_of (columns_counted reading.ends columns) others ≡ replicate (length others) definition
+  pub reading_is : reading ≡ record { columns = columns; awaited = awaited_count reading.ends columns - length others; ends = reading.ends }
   pub steps_are : steps ≡ before ++ hears first ∷ map (λ message. hears message) others
 
--- what asking a query awaits after these steps
-pub data QueryAwaits (query : Query) (steps : List Step) : Awaited → Type 0 where
-  a_lead : {awaited : Awaited} → LeadAwaits query steps awaited → QueryAwaits query steps awaited
-  a_count : IsAsked query steps → QueryAwaits query steps (count (query_form query))
-  a_definition : {reading : Reading} → IsDescribed query steps reading → QueryAwaits query steps (further (query_form query) reading)
+-- what asking a query awaits after these steps, where result sets end so
+pub data QueryAwaits (ends : Ends) (query : Query) (steps : List Step) : Awaited → Type 0 where
+  a_lead : {awaited : Awaited} → LeadAwaits query steps awaited → QueryAwaits ends query steps awaited
+  a_count : IsAsked query steps → QueryAwaits ends query steps (count (query_form query))
+  a_definition : {reading : Reading} → reading.ends ≡ ends → IsDescribed query steps reading → QueryAwaits ends query steps (further (query_form query) reading)
 
 -- what it sends after these steps
 pub data QuerySends (query : Query) (steps : List Step) (payload : List ℕ) : Type 0 where

@@ -1,7 +1,7 @@
-// A link, what is sent on it, and the messages that are heard on it.
+//! A link, what is sent on it, and the messages that are heard on it.
 ghost use Rattle.std.specs.Prelude.{◌≡◌, ◌≤◌, ◌<◌, ◌↔◌, ◌+◌, ◌++◌, ◌∷◌, [], length, take, false, IfErr, IfOk, OnOk, OnErr, Err};
-ghost use Rattle.honest_server.specs.Link.{IsAnswered, IsNoCreate};
-ghost use Rattle.honest_server.specs.Exchange.{BeginsAt, IsWholeMessage};
+ghost use Rattle.honest_server.specs.Link.{IsExchanged, MaySend};
+ghost use Rattle.honest_server.specs.Exchange.{BeginsAt};
 ghost use Rattle.honest_server.specs.Moves.{plainly};
 ghost use Rattle.honest_server.specs.State.{in_session};
 ghost use Rattle.link_traits.specs.Link.{stream};
@@ -61,12 +61,11 @@ fn packets_within(bytes: u64) -> u64
 // Sends the packets of a payload.
 #[tactic(auto, using(crate::proofs::Sending::stream_answered))]
 fn send<L: Link>(link: &mut L, packets: &[u8]) -> Result<(), SessionFault>
-    requires whole { L.honest link.old → IsWholeMessage (L.served link.old).state.phase packets.now }
-    requires no_create { L.honest link.old → (L.served link.old).state.phase ≡ in_session → (L.served link.old).state.terms.sole ≡ false → IsNoCreate packets.now }
+    requires may { L.honest link.old → MaySend (L.served link.old).state packets.now }
 
     ensures stays { Stays L.Link link.old link.new }
     ensures alive { OnOk result (L.honest link.old → (L.served link.old).failed ≡ false) }
-    ensures answered { OnOk result (L.honest link.old → IsAnswered plainly (L.served link.old) packets.now (L.served link.new)) }
+    ensures answered { OnOk result (L.honest link.old → IsExchanged plainly (L.served link.old) packets.now (L.served link.new)) }
     ensures tells { L.tells link.old ↔ L.tells link.new }
     ensures counted { IsCounted (L.faults link.old) (L.faults link.new) result }
     ensures fault { IfErr result (λ fault. fault ≡ SessionFault.Link) }
@@ -128,12 +127,11 @@ impl<L: Link> Channel<L> {
     /// Sends bytes that are the packets of a payload, after which comes this id. Takes no memory.
     pub fn send_packets(&mut self, packets: &[u8], next_id: u8) -> Result<(), SessionFault>
         requires alive { self.old.has_failed ≡ false }
-        requires whole { L.honest self.old.link → IsWholeMessage (L.served self.old.link).state.phase packets.now }
-        requires no_create { L.honest self.old.link → (L.served self.old.link).state.phase ≡ in_session → (L.served self.old.link).state.terms.sole ≡ false → IsNoCreate packets.now }
+        requires may { L.honest self.old.link → MaySend (L.served self.old.link).state packets.now }
 
         ensures stays { Stays L.Link self.old.link self.new.link }
         ensures served { OnOk result (L.honest self.old.link → (L.served self.old.link).failed ≡ false) }
-        ensures answered { OnOk result (L.honest self.old.link → IsAnswered plainly (L.served self.old.link) packets.now (L.served self.new.link)) }
+        ensures answered { OnOk result (L.honest self.old.link → IsExchanged plainly (L.served self.old.link) packets.now (L.served self.new.link)) }
         ensures tells { L.tells self.old.link ↔ L.tells self.new.link }
         ensures counted { IsCounted (L.faults self.old.link) (L.faults self.new.link) result }
         ensures failed { self.new.has_failed ≡ failed_by result }
@@ -157,7 +155,7 @@ impl<L: Link> Channel<L> {
     }
 
     // Sends a short payload in one packet. Takes no memory.
-    #[tactic(auto, using(crate::proofs::Sending::short_is_sent, crate::proofs::Sending::short_is_whole))]
+    #[tactic(auto, using(crate::proofs::Sending::short_is_sent))]
     fn say_short(&mut self, id: u8, payload: &[u8]) -> Result<(), SessionFault>
         requires alive { self.old.has_failed ≡ false }
         requires short { length payload.now ≤ SHORT_PAYLOAD }

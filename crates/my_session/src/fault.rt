@@ -1,4 +1,4 @@
-// Why a call of a session didn't end well.
+//! Why a call of a session didn't end well.
 ghost use Rattle.std.specs.Prelude.{◌≡◌};
 
 use statement_forms::Form;

@@ -1,4 +1,4 @@
-// What follows from the definitions.
+//! What follows from the definitions.
 ghost use Rattle.my_session.specs.Laws.{WhatComesNextIsOneThing};
 
 /// A law: of a whole message, a packet out of order, one past the limit, and 2^62 bytes before a

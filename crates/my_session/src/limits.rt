@@ -1,4 +1,4 @@
-// The limits of a session.
+//! The limits of a session.
 
 /// The most bytes of a message, of either side.
 pub const MESSAGE_LIMIT: u32 = 67108864;

@@ -1,9 +1,8 @@
-// Logging in.
+//! Logging in.
 ghost use Rattle.std.specs.Prelude.{◌≡◌, ◌≤◌, ◌↔◌, ◌+◌, ℕ, List, length, false, Some, Ok, Err, IfErr, IfOk, OnOk, MatchResult, option_copied};
 ghost use Rattle.honest_server.specs.State.{greeted, switching, in_session};
 ghost use Rattle.wire_forms.specs.Response.{response};
 ghost use Rattle.wire_forms.specs.Switch.{switch_of};
-ghost use Rattle.wire_forms.specs.Reading.{idle};
 ghost use Rattle.wire_forms.specs.Reply.{reply_of};
 ghost use Rattle.statement_forms.specs.declared.command.Command.{Command};
 ghost use Rattle.statement_forms.specs.declared.command.Command.TheVariants.{SetUp};
@@ -11,15 +10,18 @@ ghost use Rattle.my_session.specs.Awaited.{greeting, decision, greeting_fault, d
 ghost use Rattle.my_session.specs.Channel.{channel_wire};
 ghost use Rattle.my_session.specs.Halt.{Halts, Stops, Unsaid};
 ghost use Rattle.my_session.specs.Heard.{HearsGreeting, HearsDecision, IsDecision, IsAskedToSwitch};
-ghost use Rattle.my_session.specs.InStep.{phase_after, GreetingWaits, DecisionWaits, IsQuiet, IsOpen};
+ghost use Rattle.my_session.specs.InStep.{phase_after, GreetingWaits, DecisionWaits, IsQuiet};
 ghost use Rattle.my_session.specs.Login.{password_answer, switch_answer, IsGreeted, IsAccepted, IsLoggedIn, LoginAwaits, LoginSends};
+ghost use Rattle.my_session.specs.Peer.{IsPeerOf, peer_of};
 ghost use Rattle.my_session.specs.Serving.{IsServing, Stays};
 ghost use Rattle.my_session.specs.Session.{IsCounted, Runs, failed_by};
 ghost use Rattle.my_session.specs.Wire.{Wire, Sent, Takes};
+ghost use Rattle.my_session.specs.declared.peer.Peer.{Peer};
 
 use crate::channel::Channel;
 use crate::fault::SessionFault;
 use crate::limits::SHORT_PAYLOAD;
+use crate::peer::Peer;
 use crate::run::{hear_done, read_reply, run_on};
 use link_traits::Link;
 use my_login::{LoginMessage, native_answer, response_into};
@@ -27,7 +29,7 @@ use plain_data::Buffer;
 use result_rows::RowReader;
 use statement_forms::{Command, Form};
 use std::alloc::Global;
-use wire_forms::{Greeting, LoginFault, Reply, Switch};
+use wire_forms::{Ends, Greeting, LoginFault, Reply, Switch};
 
 // What a server decides of a login.
 enum Decision {
@@ -71,6 +73,16 @@ fn switch_fault(place: u64, fault: LoginFault) -> SessionFault
     }
 }
 
+// What a greeting says of its server.
+fn peer_of(greeting: &Greeting) -> Peer
+    ensures { result ≡ peer_of greeting.now }
+{
+    Peer {
+        ends: greeting.ends,
+        newer: greeting.newer,
+    }
+}
+
 // Hears the greeting.
 fn hear_greeting<L: Link>(channel: &mut Channel<L>) -> Result<Greeting, SessionFault>
     requires alive { channel.old.has_failed ≡ false }
@@ -79,6 +91,7 @@ fn hear_greeting<L: Link>(channel: &mut Channel<L>) -> Result<Greeting, SessionF
 
     ensures stays { Stays L.Link channel.old.link channel.new.link }
     ensures quiet { OnOk result (L.honest channel.new.link → IsQuiet L.Link greeted channel.new.link) }
+    ensures server { IfOk result (λ found. L.honest channel.new.link → IsPeerOf (L.served channel.new.link).state.terms.server (peer_of found)) }
     ensures tells { L.tells channel.old.link ↔ L.tells channel.new.link }
     ensures counted { IsCounted (L.faults channel.old.link) (L.faults channel.new.link) result }
     ensures alive { OnOk result (channel.new.has_failed ≡ false) }
@@ -101,6 +114,7 @@ fn respond<L: Link>(
     channel: &mut Channel<L>,
     user: &[u8],
     answer: Option<&[u8; 20]>,
+    ends: Ends,
 ) -> Result<(), SessionFault>
     requires alive { channel.old.has_failed ≡ false }
     requires quiet { L.honest channel.old.link → IsQuiet L.Link greeted channel.old.link }
@@ -110,23 +124,23 @@ fn respond<L: Link>(
     ensures tells { L.tells channel.old.link ↔ L.tells channel.new.link }
     ensures counted { IsCounted (L.faults channel.old.link) (L.faults channel.new.link) result }
     ensures alive { OnOk result (channel.new.has_failed ≡ false) }
-    ensures sent { OnOk result (L.tells channel.old.link → Sent channel.old.id (response user.now (option_copied answer.entry)) (channel_wire L.Link channel.old) (channel_wire L.Link channel.new)) }
-    ensures err { IfErr result (λ fault. L.tells channel.old.link → Unsaid (response user.now (option_copied answer.entry)) (channel_wire L.Link channel.old) fault (channel_wire L.Link channel.new)) }
+    ensures sent { OnOk result (L.tells channel.old.link → Sent channel.old.id (response user.now (option_copied answer.entry) ends) (channel_wire L.Link channel.old) (channel_wire L.Link channel.new)) }
+    ensures err { IfErr result (λ fault. L.tells channel.old.link → Unsaid (response user.now (option_copied answer.entry) ends) (channel_wire L.Link channel.old) fault (channel_wire L.Link channel.new)) }
 {
     let mut out = Vec::new(alloc);
-    if response_into(user, answer, &mut out).is_err() {
+    if response_into(user, answer, ends, &mut out).is_err() {
         return Err(SessionFault::OutOfMemory);
     }
     channel.answer(&out)
 }
 
-// Hears the greeting and answers it.
+// Hears the greeting and answers it, and answers what it says of its server.
 fn greet<L: Link>(
     alloc: Global,
     channel: &mut Channel<L>,
     user: &[u8],
     password: &[u8],
-) -> Result<(), SessionFault>
+) -> Result<Peer, SessionFault>
     requires alive { channel.old.has_failed ≡ false }
     requires first { channel.old.id ≡ 0 }
     requires greeting { IsServing L.Link channel.old.link → GreetingWaits L.Link channel.old.link }
@@ -136,7 +150,8 @@ fn greet<L: Link>(
     ensures tells { L.tells channel.old.link ↔ L.tells channel.new.link }
     ensures counted { IsCounted (L.faults channel.old.link) (L.faults channel.new.link) result }
     ensures alive { OnOk result (channel.new.has_failed ≡ false) }
-    ensures ok { OnOk result (L.tells channel.old.link → Takes (IsGreeted user.now password.now) (channel_wire L.Link channel.old) (channel_wire L.Link channel.new)) }
+    ensures server { IfOk result (λ peer. L.honest channel.new.link → IsPeerOf (L.served channel.new.link).state.terms.server peer) }
+    ensures ok { IfOk result (λ peer. L.tells channel.old.link → Takes (IsGreeted user.now password.now peer) (channel_wire L.Link channel.old) (channel_wire L.Link channel.new)) }
     ensures err { IfErr result (λ fault. L.tells channel.old.link → Stops (LoginAwaits user.now password.now) (LoginSends user.now password.now) (channel_wire L.Link channel.old) fault (channel_wire L.Link channel.new)) }
 {
     let greeting = match hear_greeting(channel) {
@@ -144,7 +159,10 @@ fn greet<L: Link>(
         Err(fault) => return Err(fault),
     };
     let answer = password_answer(password, &greeting.scramble);
-    respond(alloc, channel, user, answer.as_ref())
+    if let Err(fault) = respond(alloc, channel, user, answer.as_ref(), greeting.ends) {
+        return Err(fault);
+    }
+    Ok(peer_of(&greeting))
 }
 
 // Reads a request for another scramble's answer.
@@ -161,7 +179,7 @@ fn read_switch(place: u64, payload: &[u8]) -> Result<Switch, SessionFault>
 fn read_decision(place: u64, payload: &[u8]) -> Result<Decision, SessionFault>
     ensures { MatchResult result (λ found. IsDecision found payload.now) (λ fault. decision_fault place payload.now (reply_of payload.now) ≡ Some fault) }
 {
-    match read_reply(payload, &mut RowReader::new()) {
+    match read_reply(payload, &mut RowReader::new(Ends::Eof)) {
         Some(Reply::Done) => return Ok(Decision::Accepted),
         Some(Reply::Refused(refusal)) => {
             return Err(SessionFault::Refused(Form::Connect, refusal));
@@ -209,8 +227,8 @@ fn answer_switch<L: Link>(
     ensures tells { L.tells channel.old.link ↔ L.tells channel.new.link }
     ensures counted { IsCounted (L.faults channel.old.link) (L.faults channel.new.link) result }
     ensures alive { OnOk result (channel.new.has_failed ≡ false) }
-    ensures ok { OnOk result ((start : Wire) (user : List ℕ) → L.tells channel.old.link → Takes (IsAskedToSwitch user password.now switch) start (channel_wire L.Link channel.old) → Takes (IsAccepted user password.now) start (channel_wire L.Link channel.new)) }
-    ensures err { IfErr result (λ fault. (start : Wire) (user : List ℕ) → L.tells channel.old.link → Takes (IsAskedToSwitch user password.now switch) start (channel_wire L.Link channel.old) → Stops (LoginAwaits user password.now) (LoginSends user password.now) start fault (channel_wire L.Link channel.new)) }
+    ensures ok { OnOk result ((start : Wire) (user : List ℕ) (peer : Peer) → L.tells channel.old.link → Takes (IsAskedToSwitch user password.now peer switch) start (channel_wire L.Link channel.old) → Takes (IsAccepted user password.now peer) start (channel_wire L.Link channel.new)) }
+    ensures err { IfErr result (λ fault. (start : Wire) (user : List ℕ) (peer : Peer) → L.tells channel.old.link → Takes (IsAskedToSwitch user password.now peer switch) start (channel_wire L.Link channel.old) → Stops (LoginAwaits user password.now) (LoginSends user password.now) start fault (channel_wire L.Link channel.new)) }
 {
     let answer = password_answer(password, &switch.scramble);
     if let Err(fault) = send_answer(channel, answer.as_ref()) {
@@ -251,8 +269,8 @@ fn be_accepted<L: Link>(channel: &mut Channel<L>, password: &[u8]) -> Result<(),
     ensures tells { L.tells channel.old.link ↔ L.tells channel.new.link }
     ensures counted { IsCounted (L.faults channel.old.link) (L.faults channel.new.link) result }
     ensures alive { OnOk result (channel.new.has_failed ≡ false) }
-    ensures ok { OnOk result ((start : Wire) (user : List ℕ) → L.tells channel.old.link → Takes (IsGreeted user password.now) start (channel_wire L.Link channel.old) → Takes (IsAccepted user password.now) start (channel_wire L.Link channel.new)) }
-    ensures err { IfErr result (λ fault. (start : Wire) (user : List ℕ) → L.tells channel.old.link → Takes (IsGreeted user password.now) start (channel_wire L.Link channel.old) → Stops (LoginAwaits user password.now) (LoginSends user password.now) start fault (channel_wire L.Link channel.new)) }
+    ensures ok { OnOk result ((start : Wire) (user : List ℕ) (peer : Peer) → L.tells channel.old.link → Takes (IsGreeted user password.now peer) start (channel_wire L.Link channel.old) → Takes (IsAccepted user password.now peer) start (channel_wire L.Link channel.new)) }
+    ensures err { IfErr result (λ fault. (start : Wire) (user : List ℕ) (peer : Peer) → L.tells channel.old.link → Takes (IsGreeted user password.now peer) start (channel_wire L.Link channel.old) → Stops (LoginAwaits user password.now) (LoginSends user password.now) start fault (channel_wire L.Link channel.new)) }
 {
     match hear_decision(channel) {
         Ok(Decision::Accepted) => Ok(()),
@@ -267,7 +285,7 @@ fn set_up<L: Link>(channel: &mut Channel<L>, payload: &mut Buffer) -> Result<(),
     requires quiet { L.honest channel.old.link → IsQuiet L.Link in_session channel.old.link }
 
     ensures stays { Stays L.Link channel.old.link channel.new.link }
-    ensures is_open { OnOk result (L.honest channel.new.link → IsOpen L.Link channel.new.link channel.new.id idle) }
+    ensures quiet { OnOk result (L.honest channel.new.link → IsQuiet L.Link in_session channel.new.link) }
     ensures tells { L.tells channel.old.link ↔ L.tells channel.new.link }
     ensures counted { IsCounted (L.faults channel.old.link) (L.faults channel.new.link) result }
     ensures alive { OnOk result (channel.new.has_failed ≡ false) }
@@ -280,32 +298,37 @@ fn set_up<L: Link>(channel: &mut Channel<L>, payload: &mut Buffer) -> Result<(),
     run_on(channel, payload, &Command::SetUp)
 }
 
-/// Logs in over a link on which nothing was heard.
+/// Logs in over a link on which nothing was heard, and answers what the greeting says of the server.
 pub(crate) fn log_in<L: Link>(
     alloc: Global,
     channel: &mut Channel<L>,
     payload: &mut Buffer,
     user: &[u8],
     password: &[u8],
-) -> Result<(), SessionFault>
+) -> Result<Peer, SessionFault>
     requires alive { channel.old.has_failed ≡ false }
     requires first { channel.old.id ≡ 0 }
     requires greeting { IsServing L.Link channel.old.link → GreetingWaits L.Link channel.old.link }
 
     ensures stays { Stays L.Link channel.old.link channel.new.link }
-    ensures is_open { OnOk result (L.honest channel.new.link → IsOpen L.Link channel.new.link channel.new.id idle) }
+    ensures quiet { OnOk result (L.honest channel.new.link → IsQuiet L.Link in_session channel.new.link) }
+    ensures server { IfOk result (λ peer. L.honest channel.new.link → IsPeerOf (L.served channel.new.link).state.terms.server peer) }
     ensures tells { L.tells channel.old.link ↔ L.tells channel.new.link }
     ensures counted { IsCounted (L.faults channel.old.link) (L.faults channel.new.link) result }
     ensures alive { OnOk result (channel.new.has_failed ≡ false) }
     ensures room { OnOk result (SHORT_PAYLOAD ≤ length payload.new.bytes + payload.new.spare) }
-    ensures ok { OnOk result (L.tells channel.old.link → Takes (IsLoggedIn user.now password.now) (channel_wire L.Link channel.old) (channel_wire L.Link channel.new)) }
+    ensures ok { IfOk result (λ peer. L.tells channel.old.link → Takes (IsLoggedIn user.now password.now peer) (channel_wire L.Link channel.old) (channel_wire L.Link channel.new)) }
     ensures err { IfErr result (λ fault. L.tells channel.old.link → Stops (LoginAwaits user.now password.now) (LoginSends user.now password.now) (channel_wire L.Link channel.old) fault (channel_wire L.Link channel.new)) }
 {
-    if let Err(fault) = greet(alloc, channel, user, password) {
-        return Err(fault);
-    }
+    let peer = match greet(alloc, channel, user, password) {
+        Ok(peer) => peer,
+        Err(fault) => return Err(fault),
+    };
     if let Err(fault) = be_accepted(channel, password) {
         return Err(fault);
     }
-    set_up(channel, payload)
+    if let Err(fault) = set_up(channel, payload) {
+        return Err(fault);
+    }
+    Ok(peer)
 }

@@ -1,4 +1,4 @@
-// What reading a database goes through.
+//! What reading a database goes through.
 ghost use Rattle.std.specs.Prelude.{◌≡◌, ◌<◌, ◌↔◌, ℕ, Bool, false, IfErr, IfOk, OnOk};
 ghost use Rattle.std.specs.Borrow.{sem};
 ghost use Rattle.std.specs.Io.BufRead.{Rests};
@@ -25,8 +25,8 @@ pub trait Reads {
     /// Whether it tells what goes over its link.
     ghost tells: { Self → Type 0 };
 
-    /// What goes over its link, how often that has failed, whether the reader has failed, and the rows that
-    /// are pending.
+    /// What goes over its link, how often that has failed, what the greeting said of the server, whether
+    /// the reader has failed, and the rows that are pending.
     ghost view: { Self → ReaderView };
 
     /// Asks a query, and answers how many columns its rows have. Where the query is a SHOW CREATE of
@@ -36,18 +36,19 @@ pub trait Reads {
     fn query(&mut self, query: &Query<'_>) -> Result<u32, SessionFault>
         requires text { QueryHasText query.now }
         requires alive { (view self.old).has_failed ≡ false }
-        requires none_pending { (view self.old).pending.reading ≡ idle }
+        requires none_pending { (view self.old).pending.reading ≡ idle (view self.old).peer.ends }
 
         ensures honest { honest self.old ↔ honest self.new }
         ensures origin { same_origin self.old self.new }
         ensures terms { honest self.old → terms self.new ≡ terms self.old }
         ensures tells { tells self.old ↔ tells self.new }
         ensures counted { IsCounted (view self.old).faults (view self.new).faults result }
+        ensures peer { (view self.new).peer ≡ (view self.old).peer }
         ensures failed { (view self.new).has_failed ≡ failed_by result }
-        ensures pending { PendingAfter query.now result (view self.new).pending }
+        ensures pending { PendingAfter (view self.old).peer.ends query.now result (view self.new).pending }
         ensures columns { IfOk result (λ columns. 0 < columns) }
         ensures fault { IfErr result IsOfStatement }
-        ensures asks { tells self.old → Asks query.now (view self.old).wire result (view self.new).wire };
+        ensures asks { tells self.old → Asks (view self.old).peer.ends query.now (view self.old).wire result (view self.new).wire };
 
     /// The next row, lent until the next call, or `None` exactly at the end of the rows. The
     /// condition is that rows are pending. Either comes in bytes that weren't heard before, and no

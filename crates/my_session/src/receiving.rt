@@ -1,4 +1,4 @@
-// How the bytes of a message are taken off a link.
+//! How the bytes of a message are taken off a link.
 ghost use Rattle.std.specs.Prelude.{◌≡◌, ◌≢◌, ◌<◌, ◌≤◌, ◌↔◌, ◌+◌, ◌-◌, ℕ, [], length, false, IfErr, IfOk, OnOk, OnErr, Err};
 ghost use Rattle.my_packets.specs.Front.{Wants};
 ghost use Rattle.wire_forms.specs.Packet.{id_after};

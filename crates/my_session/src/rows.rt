@@ -1,6 +1,6 @@
-// Queries, and their rows.
+//! Queries, and their rows.
 ghost use Rattle.std.specs.Prelude.{◌≡◌, ◌≤◌, ◌<◌, ◌↔◌, ◌+◌, ◌-◌, ℕ, length, true, false, Some, Ok, Err, IfErr, IfOk, OnOk, MatchResult, option_copied};
-ghost use Rattle.wire_forms.specs.Reading.{idle, columns_counted, definition_if, further_of, reading_after};
+ghost use Rattle.wire_forms.specs.Reading.{idle, awaited_count, columns_counted, definition_if, further_of, reading_after};
 ghost use Rattle.wire_forms.specs.declared.reply.Reply.TheVariants.{Columns};
 ghost use Rattle.statement_forms.specs.Form.{query_form};
 ghost use Rattle.statement_forms.specs.Statement.{QueryHasText};
@@ -9,7 +9,8 @@ ghost use Rattle.my_session.specs.Awaited.{count, further};
 ghost use Rattle.my_session.specs.Channel.{channel_wire};
 ghost use Rattle.my_session.specs.Halt.{Halts, Stops, Unsaid};
 ghost use Rattle.my_session.specs.Heard.{HearsReply, HearsDefinition, IsAfterRow, Judges};
-ghost use Rattle.my_session.specs.InStep.{IsOpen, ReplyWaits};
+ghost use Rattle.honest_server.specs.State.{in_session};
+ghost use Rattle.my_session.specs.InStep.{IsOpen, IsQuiet, ReplyWaits};
 ghost use Rattle.my_session.specs.Lead.{lead_of};
 ghost use Rattle.my_session.specs.Serving.{Stays};
 ghost use Rattle.my_session.specs.Session.{Asks, IsCounted, IsOfStatement, ends_session, failed_by, rows_of};
@@ -27,7 +28,7 @@ use plain_data::Buffer;
 use result_rows::{Row, RowReader, Turn};
 use sql_statements::query_into;
 use statement_forms::{Command, Form, Part, Query};
-use wire_forms::Reply;
+use wire_forms::{Ends, Reply};
 
 // The schema in which a query is to be asked.
 fn lead_of<'q>(query: &'q Query<'_>) -> Option<&'q [u8]>
@@ -39,7 +40,9 @@ fn lead_of<'q>(query: &'q Query<'_>) -> Option<&'q [u8]>
         Query::CreateProcedure { schema, .. } => Some(schema.bytes()),
         Query::CreateFunction { schema, .. } => Some(schema.bytes()),
         Query::CreateTrigger { schema, .. } => Some(schema.bytes()),
+        Query::CreateEvent { schema, .. } => Some(schema.bytes()),
         Query::MasterStatus
+        | Query::BinaryLogStatus
         | Query::Schemas
         | Query::Tables { .. }
         | Query::Columns { .. }
@@ -47,6 +50,7 @@ fn lead_of<'q>(query: &'q Query<'_>) -> Option<&'q [u8]>
         | Query::Triggers { .. }
         | Query::Routines { .. }
         | Query::ViewNeeds { .. }
+        | Query::Events { .. }
         | Query::CreateDatabase { .. }
         | Query::Key { .. }
         | Query::KeyAbove { .. }
@@ -55,6 +59,12 @@ fn lead_of<'q>(query: &'q Query<'_>) -> Option<&'q [u8]>
         | Query::RowsAbove { .. }
         | Query::RowsUpTo { .. }
         | Query::RowsBetween { .. }
+        | Query::WideKey { .. }
+        | Query::WideKeyAbove { .. }
+        | Query::RowsByWideKey { .. }
+        | Query::RowsAboveWide { .. }
+        | Query::RowsUpToWide { .. }
+        | Query::RowsBetweenWide { .. }
         | Query::ProgressDump
         | Query::ProgressFiles => None,
     }
@@ -67,10 +77,10 @@ fn lead<L: Link>(
     query: &Query<'_>,
 ) -> Result<(), SessionFault>
     requires alive { channel.old.has_failed ≡ false }
-    requires is_open { L.honest channel.old.link → IsOpen L.Link channel.old.link channel.old.id idle }
+    requires quiet { L.honest channel.old.link → IsQuiet L.Link in_session channel.old.link }
 
     ensures stays { Stays L.Link channel.old.link channel.new.link }
-    ensures is_open { failed_by result ≡ false → L.honest channel.new.link → IsOpen L.Link channel.new.link channel.new.id idle }
+    ensures quiet { failed_by result ≡ false → L.honest channel.new.link → IsQuiet L.Link in_session channel.new.link }
     ensures tells { L.tells channel.old.link ↔ L.tells channel.new.link }
     ensures counted { IsCounted (L.faults channel.old.link) (L.faults channel.new.link) result }
     ensures alive { failed_by result ≡ false → channel.new.has_failed ≡ false }
@@ -113,7 +123,7 @@ fn send_query<L: Link>(
 ) -> Result<(), SessionFault>
     requires text { QueryHasText query.now }
     requires alive { channel.old.has_failed ≡ false }
-    requires is_open { L.honest channel.old.link → IsOpen L.Link channel.old.link channel.old.id idle }
+    requires quiet { L.honest channel.old.link → IsQuiet L.Link in_session channel.old.link }
 
     ensures stays { Stays L.Link channel.old.link channel.new.link }
     ensures replied { OnOk result (L.honest channel.new.link → ReplyWaits L.Link channel.new.link channel.new.id) }
@@ -141,17 +151,18 @@ fn hear_count<L: Link>(
 ) -> Result<u32, SessionFault>
     requires alive { channel.old.has_failed ≡ false }
     requires waits { L.honest channel.old.link → ReplyWaits L.Link channel.old.link channel.old.id }
+    requires server { L.honest channel.old.link → reader.old.ends ≡ (L.served channel.old.link).state.terms.server.ends }
 
     ensures stays { Stays L.Link channel.old.link channel.new.link }
-    ensures rest { IfOk result (λ columns. L.honest channel.new.link → IsOpen L.Link channel.new.link channel.new.id (columns_counted columns)) }
-    ensures is_open { IfErr result (λ fault. ends_session fault ≡ false → L.honest channel.new.link → IsOpen L.Link channel.new.link channel.new.id idle) }
+    ensures rest { IfOk result (λ columns. L.honest channel.new.link → IsOpen L.Link channel.new.link channel.new.id (columns_counted reader.old.ends columns)) }
+    ensures quiet { IfErr result (λ fault. ends_session fault ≡ false → L.honest channel.new.link → IsQuiet L.Link in_session channel.new.link) }
     ensures tells { L.tells channel.old.link ↔ L.tells channel.new.link }
     ensures counted { IsCounted (L.faults channel.old.link) (L.faults channel.new.link) result }
     ensures alive { failed_by result ≡ false → channel.new.has_failed ≡ false }
     ensures fault { IfErr result IsOfStatement }
     ensures some { IfOk result (λ columns. 0 < columns) }
     ensures few { IfOk result (λ columns. columns < 65536) }
-    ensures reader { IfOk result (λ columns. reader.new ≡ columns_counted columns) }
+    ensures reader { IfOk result (λ columns. reader.new ≡ columns_counted reader.old.ends columns) }
     ensures heard { IfOk result (λ columns. L.tells channel.old.link → HearsReply (Some (Columns columns)) (channel_wire L.Link channel.old) (channel_wire L.Link channel.new)) }
     ensures err { IfErr result (λ fault. L.tells channel.old.link → Halts (count form) (channel_wire L.Link channel.old) fault (channel_wire L.Link channel.new)) }
 {
@@ -214,17 +225,30 @@ fn hear_definition<L: Link>(
     Err(SessionFault::Garbled(place))
 }
 
-// Hears the definitions of so many columns, and their EOF.
+// How many messages stand before the rows of so many columns.
+fn awaited_count(ends: Ends, columns: u32) -> u32
+    requires few { columns < 65536 }
+
+    ensures { result ≡ awaited_count ends columns }
+{
+    match ends {
+        Ends::Eof => columns + 1,
+        Ends::Ok => columns,
+    }
+}
+
+// Hears the messages before the rows of so many columns.
 fn describe<L: Link>(
     channel: &mut Channel<L>,
     reader: &mut RowReader,
     query: &Query<'_>,
+    ends: Ends,
     columns: u32,
 ) -> Result<(), SessionFault>
     requires alive { channel.old.has_failed ≡ false }
     requires some { 0 < columns }
     requires few { columns < 65536 }
-    requires reader { reader.old ≡ columns_counted columns }
+    requires reader { reader.old ≡ columns_counted ends columns }
     requires rest { L.honest channel.old.link → IsOpen L.Link channel.old.link channel.old.id reader.old }
 
     ensures stays { Stays L.Link channel.old.link channel.new.link }
@@ -234,12 +258,12 @@ fn describe<L: Link>(
     ensures counted { IsCounted (L.faults channel.old.link) (L.faults channel.new.link) result }
     ensures alive { failed_by result ≡ false → channel.new.has_failed ≡ false }
     ensures fault { IfErr result IsOfStatement }
-    ensures reader { OnOk result (reader.new ≡ rows_of columns) }
-    ensures ok { OnOk result ((start : Wire) → L.tells channel.old.link → Takes (λ steps. IsDescribed query.now steps (columns_counted columns)) start (channel_wire L.Link channel.old) → Takes (λ steps. IsDescribed query.now steps (rows_of columns)) start (channel_wire L.Link channel.new)) }
-    ensures err { IfErr result (λ fault. (start : Wire) → L.tells channel.old.link → Takes (λ steps. IsDescribed query.now steps (columns_counted columns)) start (channel_wire L.Link channel.old) → Stops (QueryAwaits query.now) (QuerySends query.now) start fault (channel_wire L.Link channel.new)) }
+    ensures reader { OnOk result (reader.new ≡ rows_of ends columns) }
+    ensures ok { OnOk result ((start : Wire) → L.tells channel.old.link → Takes (λ steps. IsDescribed query.now steps (columns_counted ends columns)) start (channel_wire L.Link channel.old) → Takes (λ steps. IsDescribed query.now steps (rows_of ends columns)) start (channel_wire L.Link channel.new)) }
+    ensures err { IfErr result (λ fault. (start : Wire) → L.tells channel.old.link → Takes (λ steps. IsDescribed query.now steps (columns_counted ends columns)) start (channel_wire L.Link channel.old) → Stops (QueryAwaits ends query.now) (QuerySends query.now) start fault (channel_wire L.Link channel.new)) }
 {
     let form = query.form();
-    let mut left = columns + 1;
+    let mut left = awaited_count(ends, columns);
     'definitions: while 0 < left {
         if let Err(fault) = hear_definition(channel, reader, form) {
             return Err(fault);
@@ -255,22 +279,25 @@ fn ask<L: Link>(
     payload: &mut Buffer,
     reader: &mut RowReader,
     query: &Query<'_>,
+    ends: Ends,
 ) -> Result<u32, SessionFault>
     requires text { QueryHasText query.now }
     requires alive { channel.old.has_failed ≡ false }
-    requires is_open { L.honest channel.old.link → IsOpen L.Link channel.old.link channel.old.id idle }
+    requires reader { reader.old.ends ≡ ends }
+    requires server { L.honest channel.old.link → ends ≡ (L.served channel.old.link).state.terms.server.ends }
+    requires quiet { L.honest channel.old.link → IsQuiet L.Link in_session channel.old.link }
 
     ensures stays { Stays L.Link channel.old.link channel.new.link }
-    ensures rest { IfOk result (λ columns. L.honest channel.new.link → IsOpen L.Link channel.new.link channel.new.id (rows_of columns)) }
-    ensures is_open { IfErr result (λ fault. ends_session fault ≡ false → L.honest channel.new.link → IsOpen L.Link channel.new.link channel.new.id idle) }
+    ensures rest { IfOk result (λ columns. L.honest channel.new.link → IsOpen L.Link channel.new.link channel.new.id (rows_of ends columns)) }
+    ensures quiet { IfErr result (λ fault. ends_session fault ≡ false → L.honest channel.new.link → IsQuiet L.Link in_session channel.new.link) }
     ensures tells { L.tells channel.old.link ↔ L.tells channel.new.link }
     ensures counted { IsCounted (L.faults channel.old.link) (L.faults channel.new.link) result }
     ensures alive { failed_by result ≡ false → channel.new.has_failed ≡ false }
     ensures room { length payload.old.bytes + payload.old.spare ≤ length payload.new.bytes + payload.new.spare }
     ensures fault { IfErr result IsOfStatement }
     ensures columns { IfOk result (λ columns. 0 < columns) }
-    ensures reader { IfOk result (λ columns. reader.new ≡ rows_of columns) }
-    ensures asks { L.tells channel.old.link → Asks query.now (channel_wire L.Link channel.old) result (channel_wire L.Link channel.new) }
+    ensures reader { IfOk result (λ columns. reader.new ≡ rows_of ends columns) }
+    ensures asks { L.tells channel.old.link → Asks ends query.now (channel_wire L.Link channel.old) result (channel_wire L.Link channel.new) }
 {
     if let Err(fault) = lead(channel, payload, query) {
         return Err(fault);
@@ -282,7 +309,7 @@ fn ask<L: Link>(
         Ok(columns) => columns,
         Err(fault) => return Err(fault),
     };
-    if let Err(fault) = describe(channel, reader, query, columns) {
+    if let Err(fault) = describe(channel, reader, query, ends, columns) {
         return Err(fault);
     }
     Ok(columns)
@@ -290,11 +317,17 @@ fn ask<L: Link>(
 
 // Reads a message in the place of a row, and says whether it is one; else it is the end. After a
 // fault nothing is pending.
-fn judge(reader: &mut RowReader, form: Form, message: Message<'_>) -> Result<bool, SessionFault>
+fn judge(
+    reader: &mut RowReader,
+    ends: Ends,
+    form: Form,
+    message: Message<'_>,
+) -> Result<bool, SessionFault>
     requires pending { 0 < reader.old.columns }
     requires rows { reader.old.awaited ≡ 0 }
+    requires ends { reader.old.ends ≡ ends }
 
-    ensures { Judges reader.old form message.entry.payload.now message.entry.place result reader.new }
+    ensures { Judges ends reader.old form message.entry.payload.now message.entry.place result reader.new }
 {
     let place = message.place;
     match reader.more(message) {
@@ -303,7 +336,7 @@ fn judge(reader: &mut RowReader, form: Form, message: Message<'_>) -> Result<boo
         Ok(Turn::Refused(refusal)) => Err(SessionFault::Refused(form, refusal)),
         Ok(Turn::Definition) => unreachable!(),
         Err(_) => {
-            *reader = RowReader::new();
+            *reader = RowReader::new(ends);
             Err(SessionFault::Garbled(place))
         }
     }
@@ -314,11 +347,13 @@ fn judge(reader: &mut RowReader, form: Form, message: Message<'_>) -> Result<boo
 fn advance<L: Link>(
     channel: &mut Channel<L>,
     reader: &mut RowReader,
+    ends: Ends,
     form: Form,
 ) -> Result<bool, SessionFault>
     requires alive { channel.old.has_failed ≡ false }
     requires pending { 0 < reader.old.columns }
     requires rows { reader.old.awaited ≡ 0 }
+    requires ends { reader.old.ends ≡ ends }
     requires rest { L.honest channel.old.link → IsOpen L.Link channel.old.link channel.old.id reader.old }
 
     ensures stays { Stays L.Link channel.old.link channel.new.link }
@@ -328,15 +363,15 @@ fn advance<L: Link>(
     ensures alive { failed_by result ≡ false → channel.new.has_failed ≡ false }
     ensures began { OnOk result (channel.new.began ≡ channel.old.place) }
     ensures onward { OnOk result (IsOnward channel.old.place channel.new.place) }
-    ensures reader { MatchResult result (λ is_row. IsAfterRow reader.old channel.new.message is_row reader.new) (λ _. reader.new ≡ idle) }
+    ensures reader { MatchResult result (λ is_row. IsAfterRow ends reader.old channel.new.message is_row reader.new) (λ _. reader.new ≡ idle ends) }
     ensures heard { OnOk result (L.tells channel.old.link → Hears channel.new.message (channel_wire L.Link channel.old) (channel_wire L.Link channel.new)) }
     ensures err { IfErr result (λ fault. L.tells channel.old.link → Halts (further form reader.old) (channel_wire L.Link channel.old) fault (channel_wire L.Link channel.new)) }
 {
     if let Err(fault) = channel.hear() {
-        *reader = RowReader::new();
+        *reader = RowReader::new(ends);
         return Err(fault);
     }
-    judge(reader, form, channel.message())
+    judge(reader, ends, form, channel.message())
 }
 
 impl<L: Link> Reads for Session<L> {
@@ -350,7 +385,7 @@ impl<L: Link> Reads for Session<L> {
 
     ghost tells = { λ session. L.tells session.link };
 
-    ghost view = { λ session. record { wire = wire_of L.Link session; faults = L.faults session.link; has_failed = session.has_failed; pending = session.pending } };
+    ghost view = { λ session. record { wire = wire_of L.Link session; faults = L.faults session.link; peer = session.peer; has_failed = session.has_failed; pending = session.pending } };
 
     ghost origin_begins = { λ one. L.origin_begins one.link };
 
@@ -362,13 +397,14 @@ impl<L: Link> Reads for Session<L> {
             &mut self.payload,
             &mut self.reader,
             query,
+            self.peer.ends,
         ) {
             Ok(columns) => {
                 self.form = query.form();
                 Ok(columns)
             }
             Err(fault) => {
-                self.reader = RowReader::new();
+                self.reader = RowReader::new(self.peer.ends);
                 self.has_failed = fault.ends_session();
                 Err(fault)
             }
@@ -376,7 +412,12 @@ impl<L: Link> Reads for Session<L> {
     }
 
     fn next_row(&mut self) -> Result<Option<Row<'_>>, SessionFault> {
-        let is_row = match advance(&mut self.channel, &mut self.reader, self.form) {
+        let is_row = match advance(
+            &mut self.channel,
+            &mut self.reader,
+            self.peer.ends,
+            self.form,
+        ) {
             Ok(is_row) => is_row,
             Err(fault) => {
                 self.has_failed = fault.ends_session();

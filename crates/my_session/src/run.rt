@@ -1,6 +1,5 @@
-// Commands, and the first message of a reply.
+//! Commands, and the first message of a reply.
 ghost use Rattle.std.specs.Prelude.{◌≡◌, ◌≤◌, ◌↔◌, ◌+◌, length, false, Some, IfErr, IfOk, OnOk, OnErr, Err};
-ghost use Rattle.wire_forms.specs.Reading.{idle};
 ghost use Rattle.wire_forms.specs.Reply.{reply_of};
 ghost use Rattle.statement_forms.specs.Statement.{CommandHasText};
 ghost use Rattle.statement_forms.specs.Text.{command_text};
@@ -8,7 +7,8 @@ ghost use Rattle.my_session.specs.Awaited.{done};
 ghost use Rattle.my_session.specs.Channel.{channel_wire, IsOfChannel};
 ghost use Rattle.my_session.specs.Halt.{Halts, Misheard};
 ghost use Rattle.my_session.specs.Heard.{HasColumns, HearsReply, reading_of};
-ghost use Rattle.my_session.specs.InStep.{IsOpen, MakesNothing};
+ghost use Rattle.honest_server.specs.State.{in_session};
+ghost use Rattle.my_session.specs.InStep.{IsQuiet, MakesNothing};
 ghost use Rattle.my_session.specs.Serving.{IsServing, Stays, MessageWaits, DeliversReply, DeliversRefusal};
 ghost use Rattle.my_session.specs.Session.{IsCounted, IsOfStatement, Runs, ends_session, failed_by};
 ghost use Rattle.my_session.specs.Statements.{command_payload};
@@ -20,7 +20,7 @@ use plain_data::Buffer;
 use result_rows::RowReader;
 use sql_statements::command_into;
 use statement_forms::{Command, Form};
-use wire_forms::Reply;
+use wire_forms::{Ends, Reply};
 
 /// Hears a reply's first message; `None` where it spells none. Takes no memory.
 #[tactic(auto, using(crate::proofs::Answering::skim_tells, crate::proofs::Answering::front_tells_reply))]
@@ -39,7 +39,7 @@ pub(crate) fn hear_reply<L: Link>(
     ensures kind { IfErr result IsOfChannel }
     ensures memory { result ≡ Err SessionFault.OutOfMemory → ⊥ }
     ensures columns { IfOk result HasColumns }
-    ensures reader { IfOk result (λ reply. reader.new ≡ reading_of reply) }
+    ensures reader { IfOk result (λ reply. reader.new ≡ reading_of reader.old.ends reply) }
     ensures heard { IfOk result (λ reply. L.tells channel.old.link → HearsReply reply (channel_wire L.Link channel.old) (channel_wire L.Link channel.new)) }
     ensures err { IfErr result (λ fault. L.tells channel.old.link → Misheard (channel_wire L.Link channel.old) fault (channel_wire L.Link channel.new)) }
 {
@@ -52,12 +52,13 @@ pub(crate) fn hear_reply<L: Link>(
 pub(crate) fn read_reply(payload: &[u8], reader: &mut RowReader) -> Option<Reply>
     ensures reply { result ≡ reply_of payload.now }
     ensures columns { HasColumns result }
-    ensures reader { reader.new ≡ reading_of result }
+    ensures reader { reader.new ≡ reading_of reader.old.ends result }
 {
     reader.first(payload).ok()
 }
 
-/// Hears an OK, where an ERR answers a statement of this form. Takes no memory.
+/// Hears an OK, where an ERR answers a statement of this form. How result sets end makes no difference.
+/// Takes no memory.
 #[tactic(auto, using(crate::proofs::Answering::halts_done, crate::proofs::Answering::misheard_halts, crate::proofs::Answering::channel_of_statement, crate::proofs::Answering::channel_ends))]
 pub(crate) fn hear_done<L: Link>(channel: &mut Channel<L>, form: Form) -> Result<(), SessionFault>
     requires alive { channel.old.has_failed ≡ false }
@@ -75,7 +76,7 @@ pub(crate) fn hear_done<L: Link>(channel: &mut Channel<L>, form: Form) -> Result
     ensures err { IfErr result (λ fault. L.tells channel.old.link → Halts (done form) (channel_wire L.Link channel.old) fault (channel_wire L.Link channel.new)) }
 {
     let place = channel.place();
-    let mut reader = RowReader::new();
+    let mut reader = RowReader::new(Ends::Eof);
     match hear_reply(channel, &mut reader) {
         Ok(Some(Reply::Done)) => Ok(()),
         Ok(Some(Reply::Refused(refusal))) => Err(SessionFault::Refused(form, refusal)),
@@ -114,11 +115,11 @@ pub(crate) fn run_on<L: Link>(
 ) -> Result<(), SessionFault>
     requires text { CommandHasText command.now }
     requires alive { channel.old.has_failed ≡ false }
-    requires is_open { L.honest channel.old.link → IsOpen L.Link channel.old.link channel.old.id idle }
+    requires quiet { L.honest channel.old.link → IsQuiet L.Link in_session channel.old.link }
     requires no_create { L.honest channel.old.link → (L.served channel.old.link).state.terms.sole ≡ false → MakesNothing command.now }
 
     ensures stays { Stays L.Link channel.old.link channel.new.link }
-    ensures is_open { failed_by result ≡ false → L.honest channel.new.link → IsOpen L.Link channel.new.link channel.new.id idle }
+    ensures quiet { failed_by result ≡ false → L.honest channel.new.link → IsQuiet L.Link in_session channel.new.link }
     ensures tells { L.tells channel.old.link ↔ L.tells channel.new.link }
     ensures counted { IsCounted (L.faults channel.old.link) (L.faults channel.new.link) result }
     ensures alive { failed_by result ≡ false → channel.new.has_failed ≡ false }

@@ -1,14 +1,16 @@
-// A session.
+//! A session.
 ghost use Rattle.std.specs.Prelude.{◌≡◌, ◌↔◌, ◌≤◌, length, false, IfErr, MatchResult, Err};
 ghost use Rattle.wire_forms.specs.Reading.{idle};
 ghost use Rattle.statement_forms.specs.Statement.{CommandHasText};
 ghost use Rattle.statement_forms.specs.Text.{command_text};
 ghost use Rattle.my_session.specs.InStep.{GreetingWaits, MakesNothing};
+ghost use Rattle.my_session.specs.Peer.{IsPeerOf};
 ghost use Rattle.my_session.specs.Session.{Closes, IsCounted, IsOfStatement, LoggedIn, LoginStopped, Runs, failed_by, wire_of};
 
 use crate::channel::Channel;
 use crate::fault::SessionFault;
 use crate::login::log_in;
+use crate::peer::Peer;
 use crate::run::run_on;
 use link_traits::Link;
 use plain_data::Buffer;
@@ -30,6 +32,8 @@ pub struct Session<L: Link> {
     // What is pending, and the form of the statement that asked for it.
     pub(crate) reader: RowReader,
     pub(crate) form: Form,
+    // What the greeting said of the server.
+    pub(crate) peer: Peer,
     pub(crate) has_failed: bool,
 }
 
@@ -40,14 +44,15 @@ impl<L: Link> Model for Session<L> {
 
     ghost Value = { SessionView L };
 
-    ghost view = { λ s. record { link = s.channel.link; place = s.channel.place; id = s.channel.id; has_failed = s.has_failed; pending = record { reading = s.reader; form = s.form } } };
+    ghost view = { λ s. record { link = s.channel.link; place = s.channel.place; id = s.channel.id; peer = s.peer; has_failed = s.has_failed; pending = record { reading = s.reader; form = s.form } } };
 
-    ghost invariant = { λ s. (1001 ≤ length s.payload.bytes + s.payload.spare) × (s.has_failed ≡ false → s.channel.has_failed ≡ false) × IsInStep L.Link (record { link = s.channel.link; place = s.channel.place; id = s.channel.id; has_failed = s.has_failed; pending = record { reading = s.reader; form = s.form } }) };
+    ghost invariant = { λ s. (1001 ≤ length s.payload.bytes + s.payload.spare) × (s.has_failed ≡ false → s.channel.has_failed ≡ false) × (s.reader.ends ≡ s.peer.ends) × IsInStep L.Link (record { link = s.channel.link; place = s.channel.place; id = s.channel.id; peer = s.peer; has_failed = s.has_failed; pending = record { reading = s.reader; form = s.form } }) };
 }
 
 impl<L: Link> Session<L> {
     /// Reads the greeting, logs this user in by `mysql_native_password`, over another scramble where
-    /// the server asks for that, and sets the session up. A refusal gives the link back.
+    /// the server asks for that, and sets the session up. Result sets end by an OK exactly where the
+    /// greeting offers that, and the response asks for it. A refusal gives the link back.
     /// `NotProtocol10` exactly where the server's first message begins with neither 10 nor 255, and
     /// `PluginUnsupported` exactly where the server asks for the login by another plugin; an ERR to
     /// the login has the form CONNECT. (MySQL source documentation, "Connection Phase".)
@@ -67,11 +72,12 @@ impl<L: Link> Session<L> {
         let mut channel = Channel::new(alloc, link);
         let mut payload = Buffer::new(alloc);
         match log_in(alloc, &mut channel, &mut payload, user, password) {
-            Ok(()) => Ok(Session {
+            Ok(peer) => Ok(Session {
                 channel,
                 payload,
-                reader: RowReader::new(),
+                reader: RowReader::new(peer.ends),
                 form: Form::Connect,
+                peer,
                 has_failed: false,
             }),
             Err(fault) => Err((channel.into_link(), fault)),
@@ -85,7 +91,7 @@ impl<L: Link> Session<L> {
     pub fn run(&mut self, command: &Command<'_>) -> Result<(), SessionFault>
         requires text { CommandHasText command.now }
         requires alive { self.old.has_failed ≡ false }
-        requires none_pending { self.old.pending.reading ≡ idle }
+        requires none_pending { self.old.pending.reading ≡ idle self.old.peer.ends }
         requires no_create { L.honest self.old.link → (L.served self.old.link).state.terms.sole ≡ false → MakesNothing command.now }
 
         ensures honest { L.honest self.old.link ↔ L.honest self.new.link }
@@ -94,7 +100,8 @@ impl<L: Link> Session<L> {
         ensures tells { L.tells self.old.link ↔ L.tells self.new.link }
         ensures counted { IsCounted (L.faults self.old.link) (L.faults self.new.link) result }
         ensures failed { self.new.has_failed ≡ failed_by result }
-        ensures pending { self.new.pending.reading ≡ idle }
+        ensures peer { self.new.peer ≡ self.old.peer }
+        ensures pending { self.new.pending.reading ≡ idle self.new.peer.ends }
         ensures fault { IfErr result IsOfStatement }
         ensures memory { length (command_text command.now) ≤ 1000 → result ≡ Err SessionFault.OutOfMemory → ⊥ }
         ensures runs { L.tells self.old.link → Runs command.now (wire_of L.Link self.old) result (wire_of L.Link self.new) }
@@ -114,6 +121,15 @@ impl<L: Link> Session<L> {
         ensures { result ≡ self.now.has_failed }
     {
         self.has_failed
+    }
+
+    /// Whether the server is of version 8.2 or newer, as its greeting said; then it has `SHOW BINARY LOG
+    /// STATUS`. What the greeting said is what an honest server is. Takes no memory.
+    pub fn newer(&self) -> bool
+        ensures newer { result ≡ self.now.peer.newer }
+        ensures server { L.honest self.now.link → IsPeerOf (L.served self.now.link).state.terms.server self.now.peer }
+    {
+        self.peer.newer
     }
 
     /// How many bytes were heard on the session. Takes no memory.
@@ -136,6 +152,7 @@ impl<L: Link> Session<L> {
             payload: _,
             reader: _,
             form: _,
+            peer: _,
             has_failed,
         } = self;
         if !has_failed {

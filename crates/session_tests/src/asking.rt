@@ -1,4 +1,4 @@
-// A session that is asked.
+//! A session that is asked.
 ghost use Rattle.std.specs.Prelude.{◌≡◌, true, false};
 ghost use Rattle.wire_forms.specs.Reading.{idle};
 ghost use Rattle.session_tests.specs.Waiting.{Pends};
@@ -29,13 +29,13 @@ impl Model for Asking {
 
     ghost view = { λ a. a.has_rows };
 
-    ghost invariant = { λ a. a.session.has_failed ≡ false → Pends a.has_rows a.session.pending.reading };
+    ghost invariant = { λ a. a.session.has_failed ≡ false → Pends a.session.peer.ends a.has_rows a.session.pending.reading };
 }
 
 impl Asking {
     /// A session on which nothing is pending.
     pub fn of(alloc: Global, session: Session<ReplyLink>) -> Asking
-        requires { session.pending.reading ≡ idle }
+        requires { session.pending.reading ≡ idle session.peer.ends }
     {
         Asking {
             alloc,
@@ -60,6 +60,7 @@ impl Asking {
         let alloc = self.alloc;
         match case {
             "failed" => said(alloc, if self.session.failed() { "yes" } else { "no" }),
+            "newer" => said(alloc, if self.session.newer() { "yes" } else { "no" }),
             "place" => Ok(format!(in alloc; "{}", self.session.place())?),
             _ if self.session.failed() => said(alloc, "the session has failed"),
             "next_row" => self.next_row(),
@@ -90,9 +91,9 @@ impl Asking {
 // Commits.
 fn run(alloc: Global, session: &mut Session<ReplyLink>) -> Result<String, OutOfMemory>
     requires alive { session.old.has_failed ≡ false }
-    requires none_pending { session.old.pending.reading ≡ idle }
+    requires none_pending { session.old.pending.reading ≡ idle session.old.peer.ends }
 
-    ensures { session.new.pending.reading ≡ idle }
+    ensures { session.new.pending.reading ≡ idle session.new.peer.ends }
 {
     match session.run(&Command::Commit) {
         Ok(()) => said(alloc, "done"),
@@ -107,9 +108,9 @@ fn query(
     has_rows: &mut bool,
 ) -> Result<String, OutOfMemory>
     requires alive { session.old.has_failed ≡ false }
-    requires none_pending { session.old.pending.reading ≡ idle }
+    requires none_pending { session.old.pending.reading ≡ idle session.old.peer.ends }
 
-    ensures { Pends has_rows.new session.new.pending.reading }
+    ensures { Pends session.new.peer.ends has_rows.new session.new.pending.reading }
 {
     let answer = session.query(&Query::Schemas);
     *has_rows = answer.is_ok();
@@ -123,9 +124,9 @@ fn query_view(
     has_rows: &mut bool,
 ) -> Result<String, OutOfMemory>
     requires alive { session.old.has_failed ≡ false }
-    requires none_pending { session.old.pending.reading ≡ idle }
+    requires none_pending { session.old.pending.reading ≡ idle session.old.peer.ends }
 
-    ensures { Pends has_rows.new session.new.pending.reading }
+    ensures { Pends session.new.peer.ends has_rows.new session.new.pending.reading }
 {
     let view = Query::CreateView {
         schema: Part::of(b"s"),
@@ -144,10 +145,10 @@ fn next_row(
     has_rows: &mut bool,
 ) -> Result<String, OutOfMemory>
     requires alive { session.old.has_failed ≡ false }
-    requires pending { Pends true session.old.pending.reading }
+    requires pending { Pends session.old.peer.ends true session.old.pending.reading }
     requires has_rows { has_rows.old ≡ true }
 
-    ensures { Pends has_rows.new session.new.pending.reading }
+    ensures { Pends session.new.peer.ends has_rows.new session.new.pending.reading }
 {
     match session.next_row() {
         Ok(Some(row)) => row_words(alloc, &row),

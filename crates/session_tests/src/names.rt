@@ -1,4 +1,4 @@
-// Messages that have a name.
+//! Messages that have a name.
 
 use crate::words::bytes_of;
 use plain_data::OutOfMemory;

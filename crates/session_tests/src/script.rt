@@ -1,4 +1,4 @@
-// What a server says.
+//! What a server says.
 ghost use Rattle.std.specs.Prelude.{◌≡◌, IfOk};
 
 use crate::names::Names;
@@ -72,7 +72,7 @@ impl Script {
 
     /// A site whose first link has the conversation; it is used up.
     pub fn site(&mut self) -> Result<ReplySite, OutOfMemory>
-        ensures { IfOk result (λ site. site.out ≡ 0) }
+        ensures { IfOk result (λ site. site.links.out ≡ 0) }
     {
         let mut conversation = Conversation::new(self.alloc);
         std::mem::swap(&mut conversation, &mut self.conversation);

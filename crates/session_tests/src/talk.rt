@@ -1,4 +1,4 @@
-// A server, and a session with it.
+//! A server, and a session with it.
 
 use crate::asking::{Asking, fault_words};
 use crate::script::Script;
@@ -27,7 +27,7 @@ impl Model for Talk {
 
     ghost view = { λ t. t.site };
 
-    ghost invariant = { λ t. t.site.out ≡ (if is_some t.asking then 1 else 0) };
+    ghost invariant = { λ t. t.site.links.out ≡ (if is_some t.asking then 1 else 0) };
 }
 
 impl Talk {

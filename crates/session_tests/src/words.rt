@@ -1,4 +1,4 @@
-// The words of cases, and what they stand for.
+//! The words of cases, and what they stand for.
 
 use percent_encoding::{CONTROLS, percent_decode, percent_encode};
 use plain_data::{NumberList, OutOfMemory};

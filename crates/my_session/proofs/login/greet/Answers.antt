@@ -1,21 +1,24 @@
-use Rattle.std.proofs.Common.{◌∙◌}
-use Rattle.std.proofs.lemmas.Result.{on_ok_weaker, IfErr-weaker}
+use Rattle.std.proofs.Common.{◌∙◌, subst, sym}
 use Rattle.my_session.specs.Channel.{channel_wire}
+use Rattle.my_session.specs.Peer.{IsPeerOf, peer_of}
+use Rattle.my_session.specs.declared.peer.Peer.{Peer}
 use Rattle.my_session.proofs.LoggingIn.{greet_halts, greet_said, greet_unsaid}
+use Rattle.my_session.proofs.Stepping.{still_peer}
 use Rattle.my_session.proofs.login.greet.Goals as goal
 
 pub returns-in-Err-clause-err : goal.returns-in-Err-clause-err
 returns-in-Err-clause-err g c = λ t.
     greet_halts c.args.user.now c.args.password.now (channel_wire g.L.Link c.args.channel.now) (channel_wire g.L.Link c.hear_greeting.new.channel) c.in-Err.fault (c.in-Err.ensures.err t)
 
-pub returns-clause-ok : goal.returns-clause-ok
-returns-clause-ok g c =
-    on_ok_weaker c.respond.result (λ sent t.
-    greet_said c.args.user.now c.args.password.now (channel_wire g.L.Link c.args.channel.now) (channel_wire g.L.Link c.hear_greeting.new.channel) (channel_wire g.L.Link c.respond.new.channel) c.in-Ok.greeting (c.in-Ok.ensures.heard t) _ (c.as_ref.ensures.value ∙ c.password_answer-answer.ensures) (sent (c.in-Ok.ensures.tells.0 t)))
-    c.respond.ensures.sent
+pub returns-clause-server : goal.returns-clause-server
+returns-clause-server g c = λ h.
+    subst (λ (p : Peer). IsPeerOf (g.L.Link.served c.respond.new.channel.link).state.terms.server p) (sym c.peer_of.ensures)
+    (still_peer g.L.Link c.hear_greeting.new.channel.link c.respond.new.channel.link (peer_of c.in-Ok.greeting) c.in_default.ensures.stays c.in-Ok.ensures.server h)
 
-pub returns-clause-err : goal.returns-clause-err
-returns-clause-err g c =
-    IfErr-weaker c.respond.result _ _ (λ fault unsaid t.
-    greet_unsaid c.args.user.now c.args.password.now (channel_wire g.L.Link c.args.channel.now) (channel_wire g.L.Link c.hear_greeting.new.channel) (channel_wire g.L.Link c.respond.new.channel) c.in-Ok.greeting (c.in-Ok.ensures.heard t) _ (c.as_ref.ensures.value ∙ c.password_answer-answer.ensures) fault (unsaid (c.in-Ok.ensures.tells.0 t)))
-    c.respond.ensures.err
+pub returns-clause-ok : goal.returns-clause-ok
+returns-clause-ok g c = λ t.
+    greet_said c.args.user.now c.args.password.now (channel_wire g.L.Link c.args.channel.now) (channel_wire g.L.Link c.hear_greeting.new.channel) (channel_wire g.L.Link c.respond.new.channel) c.in-Ok.greeting (c.in-Ok.ensures.heard t) _ (c.as_ref.ensures.value ∙ c.password_answer-answer.ensures) c.peer_of.result c.peer_of.ensures (c.in_default.ensures.sent (c.in-Ok.ensures.tells.0 t))
+
+pub returns-in-Err-respond-clause-err : goal.returns-in-Err-respond-clause-err
+returns-in-Err-respond-clause-err g c = λ t.
+    greet_unsaid c.args.user.now c.args.password.now (channel_wire g.L.Link c.args.channel.now) (channel_wire g.L.Link c.hear_greeting.new.channel) (channel_wire g.L.Link c.respond.new.channel) c.in-Ok.greeting (c.in-Ok.ensures.heard t) _ (c.as_ref.ensures.value ∙ c.password_answer-answer.ensures) c.in-Err-respond.fault (c.in-Err-respond.ensures.err (c.in-Ok.ensures.tells.0 t))

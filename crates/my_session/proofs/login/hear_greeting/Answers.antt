@@ -1,4 +1,5 @@
-use Rattle.my_session.proofs.Stepping.{greeting_comes, greeting_heard}
+use Rattle.std.proofs.Common.{sym}
+use Rattle.my_session.proofs.Stepping.{greeting_comes, greeting_heard, greeting_tells}
 use Rattle.my_session.proofs.login.hear_greeting.Goals as goal
 
 pub hear-requires-clause-waits : goal.hear-requires-clause-waits
@@ -8,3 +9,8 @@ pub returns-in-Ok-clause-quiet : goal.returns-in-Ok-clause-quiet
 returns-in-Ok-clause-quiet g c = λ h.
     let is = c.in_default.ensures in
     greeting_heard g.L.Link c.args.channel.now.link c.hear.new.self.link c.args.channel.now.id c.hear.new.self.id c.hear.new.self.message c.requires.first c.requires.greeting is.served is.delivers (is.stays.honest.1 h)
+
+pub returns-in-Ok-clause-server : goal.returns-in-Ok-clause-server
+returns-in-Ok-clause-server g c = λ h.
+    let is = c.in_default.ensures in
+    greeting_tells g.L.Link c.args.channel.now.link c.hear.new.self.link c.args.channel.now.id c.hear.new.self.id c.hear.new.self.message c.message.result.payload.now c.in-Ok.greeting c.requires.first c.requires.greeting is.served is.delivers c.message.ensures.payload (sym c.in-Ok.ensures) (is.stays.honest.1 h)

@@ -8,7 +8,7 @@ pub returns-in-Ok-feed-clause-skims : goal.returns-in-Ok-feed-clause-skims
 returns-in-Ok-feed-clause-skims g c =
     let some = c.in-Ok.ensures.within.some in
     let fits = c.in-Ok.ensures.within.fits in
-    skims_piece g.L.Link c.args.link.now c.recv.new.self _ c.args.skim.now c.feed.new.self c.in-Ok-feed.field-0 c.args.taken.now c.in-Ok.count c.recv.new.buffer _ c.in-Ok.ensures.received c.in-Ok.ensures.dead c.in-Ok.ensures.served c.in-Ok-feed.ensures some (grind (arith, common_steps))
+    skims_piece g.L.Link c.args.link.now c.recv.new.self _ c.args.skim.now c.feed.new.self c.in-Ok-feed.field-0 c.args.taken.now c.in-Ok.count c.recv.new.buffer _ c.in-Ok.ensures.received c.in-Ok.ensures.served c.in-Ok-feed.ensures some (grind (arith, common_steps))
 
 pub returns-in-Err-BadSequence-clause-err : goal.returns-in-Err-BadSequence-clause-err
 returns-in-Err-BadSequence-clause-err g c =

@@ -8,5 +8,5 @@ hear-requires-clause-waits g c = λ serving. rest_comes g.L.Link c.args.channel.
 
 pub returns-clause-is_open : goal.returns-clause-is_open
 returns-clause-is_open g c =
-    row_heard g.L.Link c.args.channel.now.link c.hear.new.self.link c.args.channel.now.id c.hear.new.self.id c.args.reader.now c.hear.new.self.message c.hear.ensures.stays c.requires.pending c.requires.rest c.in_default.ensures.delivers c.args.form c.message.result.place c.judge.new.reader c.judge.result
-    (subst (λ (l : List ℕ). Judges c.args.reader.now c.args.form l c.message.result.place c.judge.result c.judge.new.reader) c.message.ensures.payload c.judge.ensures)
+    row_heard g.L.Link c.args.channel.now.link c.hear.new.self.link c.args.channel.now.id c.hear.new.self.id c.args.reader.now c.hear.new.self.message c.hear.ensures.stays c.requires.pending c.requires.rest c.in_default.ensures.delivers c.args.ends c.args.form c.message.result.place c.judge.new.reader c.judge.result
+    (subst (λ (l : List ℕ). Judges c.args.ends c.args.reader.now c.args.form l c.message.result.place c.judge.result c.judge.new.reader) c.message.ensures.payload c.judge.ensures)

@@ -10,7 +10,7 @@ use Rattle.my_session.proofs.rows.describe.Goals as goal
 pub returns-in-Err-clause-err : goal.returns-in-Err-clause-err
 returns-in-Err-clause-err g c = λ start t takes.
     let here = c.definitions.invariant in
-    definition_halts c.args.query.now start (channel_wire g.L.Link c.definitions.channel) (channel_wire g.L.Link c.hear_definition.new.channel) c.definitions.reader (here.described start t takes) c.form-form.result c.in-Err.fault c.form-form.ensures (c.in-Err.ensures.err (here.tells.0 t))
+    definition_halts c.args.ends c.args.query.now start (channel_wire g.L.Link c.definitions.channel) (channel_wire g.L.Link c.hear_definition.new.channel) c.definitions.reader (here.described start t takes) c.form-form.result c.in-Err.fault here.ends c.form-form.ensures (c.in-Err.ensures.err (here.tells.0 t))
 
 pub definitions-preserved : goal.definitions-preserved
 definitions-preserved g c =
@@ -25,11 +25,12 @@ definitions-preserved g c =
       tells = (λ t. is.tells.0 (here.tells.0 t), λ t. here.tells.1 (is.tells.1 t));
       later = omega arith;
       alive = is.alive refl;
+      ends = ap (λ (r : Reading). r.ends) is.reader ∙ here.ends;
       columns = ap (λ (r : Reading). r.columns) is.reader ∙ here.columns;
       awaited = ap (λ (r : Reading). r.awaited) is.reader ∙ ap (λ n. n - 1) left;
       described = λ start t takes.
           subst (λ (r : Reading). Takes (λ steps. IsDescribed c.args.query.now steps r) start (channel_wire g.L.Link c.hear_definition.new.channel)) (sym is.reader)
-          (described_next c.args.query.now start (channel_wire g.L.Link c.definitions.channel) (channel_wire g.L.Link c.hear_definition.new.channel) c.definitions.reader (here.described start t takes) (is.heard (here.tells.0 t)));
+          (described_next c.args.ends c.args.query.now start (channel_wire g.L.Link c.definitions.channel) (channel_wire g.L.Link c.hear_definition.new.channel) c.definitions.reader (here.described start t takes) (is.heard (here.tells.0 t)));
     }
 
 pub returns-clause-ok : goal.returns-clause-ok
@@ -37,4 +38,4 @@ returns-clause-ok g c = λ start t takes.
     let here = c.definitions.invariant in
     let left = here.awaited in
     let ended = c.definitions-test.false in
-    subst (λ (r : Reading). Takes (λ steps. IsDescribed c.args.query.now steps r) start (channel_wire g.L.Link c.definitions.channel)) (at_rows c.definitions.reader c.args.columns here.columns (omega arith)) (here.described start t takes)
+    subst (λ (r : Reading). Takes (λ steps. IsDescribed c.args.query.now steps r) start (channel_wire g.L.Link c.definitions.channel)) (at_rows c.definitions.reader c.args.ends c.args.columns here.ends here.columns (omega arith)) (here.described start t takes)

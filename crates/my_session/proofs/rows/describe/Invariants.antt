@@ -14,9 +14,10 @@ invariant-definitions g l = record {
   tells : g.L.Link.tells l.fn.channel.link ↔ g.L.Link.tells l.channel.link;
   later : g.L.Link.faults l.fn.channel.link ≤ g.L.Link.faults l.channel.link;
   alive : l.channel.has_failed ≡ false;
+  ends : l.reader.ends ≡ l.fn.ends;
   columns : l.reader.columns ≡ l.columns;
   awaited : l.reader.awaited ≡ l.left;
-  described : (start : Wire) → g.L.Link.tells l.fn.channel.link → Takes (λ steps. IsDescribed l.query steps (columns_counted l.columns)) start (channel_wire g.L.Link l.fn.channel) → Takes (λ steps. IsDescribed l.query steps l.reader) start (channel_wire g.L.Link l.channel);
+  described : (start : Wire) → g.L.Link.tells l.fn.channel.link → Takes (λ steps. IsDescribed l.query steps (columns_counted l.fn.ends l.columns)) start (channel_wire g.L.Link l.fn.channel) → Takes (λ steps. IsDescribed l.query steps l.reader) start (channel_wire g.L.Link l.channel);
 }
 
 abbrev pub decreases-definitions : goal.decreases-definitions

@@ -12,5 +12,5 @@ pub returns-clause-replied : goal.returns-clause-replied
 returns-clause-replied g c =
     on_ok_weaker c.say.result (λ replied h.
     let before = c.say.ensures.stays.honest.1 h in
-    said_text g.L.Link c.args.channel.now.link c.say.new.self.link c.say.new.self.id c.args.channel.now.id (query_text c.args.query.now) c.as_slice.result.now (c.as_slice.ensures ∙ c.in_default.ensures.bytes) (c.requires.is_open before) (replied before))
+    said_text g.L.Link c.args.channel.now.link c.say.new.self.link c.say.new.self.id (query_text c.args.query.now) c.as_slice.result.now (c.as_slice.ensures ∙ c.in_default.ensures.bytes) (c.requires.quiet before) (replied before))
     c.say.ensures.replied

@@ -16,17 +16,17 @@ hear_done-requires-clause-waits g c = λ serving.
     let is = c.in_default-say.ensures in
     let before = is.stays.honest.1 serving.honest in
     reply_comes g.L.Link c.say.new.self.link c.say.new.self.id
-    (said_text g.L.Link c.args.channel.now.link c.say.new.self.link c.say.new.self.id c.args.channel.now.id (command_text c.args.command.now) c.as_slice.result.now (c.as_slice.ensures ∙ c.in_default.ensures.bytes) (c.requires.is_open before) (is.replied before))
+    (said_text g.L.Link c.args.channel.now.link c.say.new.self.link c.say.new.self.id (command_text c.args.command.now) c.as_slice.result.now (c.as_slice.ensures ∙ c.in_default.ensures.bytes) (c.requires.quiet before) (is.replied before))
 
-pub returns-clause-is_open : goal.returns-clause-is_open
-returns-clause-is_open g c = λ goes_on h.
+pub returns-clause-quiet : goal.returns-clause-quiet
+returns-clause-quiet g c = λ goes_on h.
     let is = c.in_default-say.ensures in
     let heard = c.hear_done.ensures in
     let middle = heard.stays.honest.1 h in
     let before = is.stays.honest.1 middle in
     let replied = is.replied before in
     answered g.L.Link c.say.new.self.link c.hear_done.new.channel.link c.say.new.self.id c.hear_done.new.channel.id (record { honest = middle; alive = replied.alive })
-    (said_text g.L.Link c.args.channel.now.link c.say.new.self.link c.say.new.self.id c.args.channel.now.id (command_text c.args.command.now) c.as_slice.result.now (c.as_slice.ensures ∙ c.in_default.ensures.bytes) (c.requires.is_open before) replied)
+    (said_text g.L.Link c.args.channel.now.link c.say.new.self.link c.say.new.self.id (command_text c.args.command.now) c.as_slice.result.now (c.as_slice.ensures ∙ c.in_default.ensures.bytes) (c.requires.quiet before) replied)
     c.hear_done.result heard.done heard.refusal goes_on
 
 pub returns-in-Err-clause-runs : goal.returns-in-Err-clause-runs

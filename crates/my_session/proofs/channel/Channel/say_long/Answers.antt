@@ -1,6 +1,6 @@
 use Rattle.std.proofs.Common.{◌≡◌, List, ℕ, [], ◌++◌, ◌∙◌, ap}
 use Rattle.wire_forms.specs.Packet.{packets}
-use Rattle.my_session.proofs.Sending.{is_whole, makes_none, said}
+use Rattle.my_session.proofs.Sending.{may_send, said}
 use Rattle.my_session.proofs.channel.Channel.say_long.Goals as goal
 
 framed : (id : ℕ) (payload bytes items before : List ℕ) → bytes ≡ items → items ≡ before ++ packets id payload → before ≡ [] → bytes ≡ packets id payload
@@ -8,12 +8,10 @@ framed id payload bytes items before is items_are none = is ∙ items_are ∙ ap
 
 pub send-requires : goal.send-requires
 send-requires g c = record {
-  whole = λ h.
+  may = λ h.
       let begins = rw (← c.self.view_is) at c.requires.begins in
-      is_whole _ c.args.id c.args.payload.now c.deref.result.now (framed c.args.id c.args.payload.now c.deref.result.now _ _ c.deref.ensures.value c.in-Ok.ensures.ok c.clear.ensures.items) (begins h);
-  no_create = λ h phase sole.
       let none = rw (← c.self.view_is) at c.requires.no_create in
-      makes_none c.args.id c.args.payload.now c.deref.result.now (framed c.args.id c.args.payload.now c.deref.result.now _ _ c.deref.ensures.value c.in-Ok.ensures.ok c.clear.ensures.items) (none h phase sole);
+      may_send _ c.args.id c.args.payload.now c.deref.result.now (framed c.args.id c.args.payload.now c.deref.result.now _ _ c.deref.ensures.value c.in-Ok.ensures.ok c.clear.ensures.items) (begins h) (none h);
 }
 
 pub returns-in-Ok-send-clause-replied : goal.returns-in-Ok-send-clause-replied
