@@ -3,6 +3,7 @@ use Rattle.std.proofs.Common.{◌≡◌, ◌≤◌, ◌-◌, ◌==◌, ◌⊎◌
 use Rattle.std.specs.Prelude.{replicate, option_map}
 use Rattle.std.proofs.lemmas.Bool.Decides.{nat_tests}
 use Rattle.wire_forms.specs.Response.{response}
+use Rattle.wire_forms.specs.declared.ends.Ends.{Ends as Ending}
 use Rattle.wire_forms.specs.Greeting.{greeting_of}
 use Rattle.wire_forms.specs.Switch.{switch_of, after_request}
 use Rattle.wire_forms.specs.declared.login_fault.LoginFault.{LoginFault}
@@ -13,12 +14,14 @@ use Rattle.my_session.specs.Awaited.{Awaited, greeting, decision, done, count, f
 use Rattle.my_session.specs.Halt.{Halts, Misheard, Unsaid, Stops, at_message, at_payload}
 use Rattle.my_session.specs.Login.{password_answer, switch_answer, IsGreeted, IsSwitched, IsAccepted, IsLoggedIn, IsSettingUp, LoginAwaits, a_greeting, a_decision, an_acceptance, a_set_up, LoginSends, the_response, the_switch_answer, the_set_up}
 use Rattle.my_session.specs.Statements.{command_payload, query_payload, IsRun, RunAwaits, an_ok, RunSends, IsLed, LeadAwaits, LeadSends, IsAsked, IsDescribed, QueryAwaits, a_lead, a_count, a_definition, QuerySends, the_lead, the_query}
+use Rattle.my_session.specs.Peer.{peer_of}
+use Rattle.my_session.specs.declared.peer.Peer.{Peer}
 use Rattle.my_session.specs.Wire.{Wire, Hears, Step, commands, answers, hears, Leads, ends, after_command, after_answer, after_message, Takes, after_sent}
 use Rattle.my_session.specs.declared.fault.SessionFault.{SessionFault}
 use Rattle.my_session.specs.declared.fault.SessionFault.TheVariants.{Link, Refused, Garbled, NotProtocol10, PluginUnsupported, TooLong, StreamTooLong, OutOfMemory}
 use Rattle.my_session.specs.declared.limits.TheConstants.{MESSAGE_LIMIT}
 use Rattle.wire_forms.specs.Definition.{column_count}
-use Rattle.wire_forms.specs.Reading.{Reading, Further, definition, columns_counted, reading_after, further_of}
+use Rattle.wire_forms.specs.Reading.{Reading, Further, definition, awaited_count, columns_counted, reading_after, further_of}
 use Rattle.wire_forms.specs.Reply.{reply_of, refusal_of, is_ok_packet}
 use Rattle.wire_forms.specs.ResultSet.{turns_of}
 use Rattle.wire_forms.specs.declared.reply.Reply.{Reply}
@@ -108,11 +111,11 @@ decision_goes_on place message (Some (ReplyRefused refusal)) is = absurd (cc)
 decision_goes_on place message (Some (ColumnsReply columns)) is = switch_goes_on place (switch_of message) is
 decision_goes_on place message None is = switch_goes_on place (switch_of message) is
 
-switch_turns : (message : List ℕ) (reply : Option Reply) (found : Switch) → (reply ≡ Some Done → ⊥) → decision_fault 0 message reply ≡ None → switch_of message ≡ Ok found → after_decision message reply ≡ Some (sends_switch_answer found.scramble)
-switch_turns message (Some Done) found not_done goes_on read = absurd (not_done refl)
-switch_turns message (Some (ReplyRefused refusal)) found not_done goes_on read = absurd (cc)
-switch_turns message (Some (ColumnsReply columns)) found not_done goes_on read = ap after_switch read
-switch_turns message None found not_done goes_on read = ap after_switch read
+switch_turns : (ending : Ending) (message : List ℕ) (reply : Option Reply) (found : Switch) → (reply ≡ Some Done → ⊥) → decision_fault 0 message reply ≡ None → switch_of message ≡ Ok found → after_decision ending message reply ≡ Some (sends_switch_answer found.scramble ending)
+switch_turns ending message (Some Done) found not_done goes_on read = absurd (not_done refl)
+switch_turns ending message (Some (ReplyRefused refusal)) found not_done goes_on read = absurd (cc)
+switch_turns ending message (Some (ColumnsReply columns)) found not_done goes_on read = ap (after_switch ending) read
+switch_turns ending message None found not_done goes_on read = ap (after_switch ending) read
 
 -- ---- ends
 
@@ -170,77 +173,77 @@ module _ (asked : Asked) (start : Wire) where
 
   -- ---- the login
 
-  greeting_heard : (message : List ℕ) (found : Greeting) (new : Wire) → greeting_of message ≡ Ok found → Hears message start new → Comes asked start (sends_response found.scramble) new
+  greeting_heard : (message : List ℕ) (found : Greeting) (new : Wire) → greeting_of message ≡ Ok found → Hears message start new → Comes asked start (sends_response found.scramble found.ends) new
   greeting_heard message found new read first = heard at_start refl first (ap (λ (r : Result Greeting LoginFault). greeting_fault start.place r) read) (ap after_greeting read)
 
-  greeted : (steps : List Step) (wire : Wire) → IsGreeted asked.user asked.password steps → Leads steps start wire → Comes asked start awaits_decision wire
-  greeted steps wire so leads =
-      let payload = response asked.user (password_answer asked.password so.found.scramble) in
+  greeted : (peer : Peer) (steps : List Step) (wire : Wire) → IsGreeted asked.user asked.password peer steps → Leads steps start wire → Comes asked start (awaits_decision peer.ends) wire
+  greeted peer steps wire so leads =
+      let payload = response asked.user (password_answer asked.password so.found.scramble) so.found.ends in
       let first = leads_message so.message (answers payload ∷ []) start wire (subst (λ (l : List Step). Leads l start wire) so.steps_are leads) in
       let second = leads_answer payload [] first.middle wire first.leads in
-      subst (λ (w : Wire). Comes asked start awaits_decision w) (leads_none (after_sent first.middle.id payload first.middle) wire second.1) (answered (greeting_heard so.message so.found first.middle so.read first.hears) refl second.0)
+      subst (λ (p : Peer). Comes asked start (awaits_decision p.ends) wire) (sym so.peer_is) (subst (λ (w : Wire). Comes asked start (awaits_decision so.found.ends) w) (leads_none (after_sent first.middle.id payload first.middle) wire second.1) (answered (greeting_heard so.message so.found first.middle so.read first.hears) refl second.0))
 
-  switch_heard : (before : List Step) (message : List ℕ) (found : Switch) (middle new : Wire) → IsGreeted asked.user asked.password before → Leads before start middle → Hears message middle new → fault_at decision 0 message ≡ None → switch_of message ≡ Ok found → Comes asked start (sends_switch_answer found.scramble) new
-  switch_heard before message found middle new so leads first goes_on read =
-      heard (greeted before middle so leads) refl first (decision_goes_on middle.place message (reply_of message) goes_on) (switch_turns message (reply_of message) found (no_done message found read) goes_on read)
+  switch_heard : (peer : Peer) (before : List Step) (message : List ℕ) (found : Switch) (middle new : Wire) → IsGreeted asked.user asked.password peer before → Leads before start middle → Hears message middle new → fault_at decision 0 message ≡ None → switch_of message ≡ Ok found → Comes asked start (sends_switch_answer found.scramble peer.ends) new
+  switch_heard peer before message found middle new so leads first goes_on read =
+      heard (greeted peer before middle so leads) refl first (decision_goes_on middle.place message (reply_of message) goes_on) (switch_turns peer.ends message (reply_of message) found (no_done message found read) goes_on read)
 
-  switched : (steps : List Step) (wire : Wire) → IsSwitched asked.user asked.password steps → Leads steps start wire → Comes asked start awaits_acceptance wire
-  switched steps wire so leads =
+  switched : (peer : Peer) (steps : List Step) (wire : Wire) → IsSwitched asked.user asked.password peer steps → Leads steps start wire → Comes asked start (awaits_acceptance peer.ends) wire
+  switched peer steps wire so leads =
       let payload = switch_answer (password_answer asked.password so.found.scramble) in
       let parts = apart so.before (hears so.message ∷ answers payload ∷ []) start wire (subst (λ (l : List Step). Leads l start wire) so.steps_are leads) in
       let first = leads_message so.message (answers payload ∷ []) parts.middle wire parts.later in
       let second = leads_answer payload [] first.middle wire first.leads in
-      subst (λ (w : Wire). Comes asked start awaits_acceptance w) (leads_none (after_sent first.middle.id payload first.middle) wire second.1) (answered (switch_heard so.before so.message so.found parts.middle first.middle so.greeted parts.first first.hears so.goes_on so.read) refl second.0)
+      subst (λ (w : Wire). Comes asked start (awaits_acceptance peer.ends) w) (leads_none (after_sent first.middle.id payload first.middle) wire second.1) (answered (switch_heard peer so.before so.message so.found parts.middle first.middle so.greeted parts.first first.hears so.goes_on so.read) refl second.0)
 
-  accepted : (steps : List Step) (wire : Wire) → IsAccepted asked.user asked.password steps → Leads steps start wire → Comes asked start sends_set_up wire
-  accepted steps wire so leads =
+  accepted : (peer : Peer) (steps : List Step) (wire : Wire) → IsAccepted asked.user asked.password peer steps → Leads steps start wire → Comes asked start (sends_set_up peer.ends) wire
+  accepted peer steps wire so leads =
       let parts = apart so.before (hears so.message ∷ []) start wire (subst (λ (l : List Step). Leads l start wire) so.steps_are leads) in
       let first = leads_message so.message [] parts.middle wire parts.later in
-      let comes : Comes asked start sends_set_up first.middle = elim so.answered [
-        | inl is ↦ heard (greeted so.before parts.middle is parts.first) refl first.hears (ap (λ (r : Option Reply). decision_fault parts.middle.place so.message r) so.said_ok) (ap (λ (r : Option Reply). after_decision so.message r) so.said_ok)
-        | inr is ↦ heard (switched so.before parts.middle is parts.first) refl first.hears (ap (λ (r : Option Reply). done_fault Connect parts.middle.place r) so.said_ok) (ap (λ (r : Option Reply). after_ok sends_set_up r) so.said_ok)
+      let comes : Comes asked start (sends_set_up peer.ends) first.middle = elim so.answered [
+        | inl is ↦ heard (greeted peer so.before parts.middle is parts.first) refl first.hears (ap (λ (r : Option Reply). decision_fault parts.middle.place so.message r) so.said_ok) (ap (λ (r : Option Reply). after_decision peer.ends so.message r) so.said_ok)
+        | inr is ↦ heard (switched peer so.before parts.middle is parts.first) refl first.hears (ap (λ (r : Option Reply). done_fault Connect parts.middle.place r) so.said_ok) (ap (λ (r : Option Reply). after_ok (sends_set_up peer.ends) r) so.said_ok)
       ] in
-      subst (λ (w : Wire). Comes asked start sends_set_up w) (leads_none first.middle wire first.leads) comes
+      subst (λ (w : Wire). Comes asked start (sends_set_up peer.ends) w) (leads_none first.middle wire first.leads) comes
 
-  set_up_said : (before : List Step) (rest : List Step) (wire : Wire) → IsAccepted asked.user asked.password before → Leads (before ++ commands (command_payload SetUp) ∷ rest) start wire → (middle : Wire) × Comes asked start awaits_set_up middle × Leads rest middle wire
-  set_up_said before rest wire so leads =
+  set_up_said : (peer : Peer) (before : List Step) (rest : List Step) (wire : Wire) → IsAccepted asked.user asked.password peer before → Leads (before ++ commands (command_payload SetUp) ∷ rest) start wire → (middle : Wire) × Comes asked start (awaits_set_up peer.ends) middle × Leads rest middle wire
+  set_up_said peer before rest wire so leads =
       let parts = apart before (commands (command_payload SetUp) ∷ rest) start wire leads in
       let first = leads_command (command_payload SetUp) rest parts.middle wire parts.later in
-      (after_sent 0 (command_payload SetUp) parts.middle, commanded (accepted before parts.middle so parts.first) refl first.0, first.1)
+      (after_sent 0 (command_payload SetUp) parts.middle, commanded (accepted peer before parts.middle so parts.first) refl first.0, first.1)
 
-  pub logged_in : (wire : Wire) → Takes (IsLoggedIn asked.user asked.password) start wire → Comes asked start sends_names wire
-  logged_in wire takes =
-      let so : IsLoggedIn asked.user asked.password takes.steps = takes.so in
-      let parts = set_up_said so.before (hears so.message ∷ []) wire so.accepted (subst (λ (l : List Step). Leads l start wire) so.steps_are takes.leads) in
+  pub logged_in : (peer : Peer) (wire : Wire) → Takes (IsLoggedIn asked.user asked.password peer) start wire → Comes asked start (sends_names peer.ends) wire
+  logged_in peer wire takes =
+      let so : IsLoggedIn asked.user asked.password peer takes.steps = takes.so in
+      let parts = set_up_said peer so.before (hears so.message ∷ []) wire so.accepted (subst (λ (l : List Step). Leads l start wire) so.steps_are takes.leads) in
       let first = leads_message so.message [] parts.0 wire parts.2 in
-      subst (λ (w : Wire). Comes asked start sends_names w) (leads_none first.middle wire first.leads) (heard parts.1 refl first.hears (ap (λ (r : Option Reply). done_fault Set parts.0.place r) so.said_ok) (ap (λ (r : Option Reply). after_ok sends_names r) so.said_ok))
+      subst (λ (w : Wire). Comes asked start (sends_names peer.ends) w) (leads_none first.middle wire first.leads) (heard parts.1 refl first.hears (ap (λ (r : Option Reply). done_fault Set parts.0.place r) so.said_ok) (ap (λ (r : Option Reply). after_ok (sends_names peer.ends) r) so.said_ok))
 
-  setting_up : (steps : List Step) (wire : Wire) → IsSettingUp asked.user asked.password steps → Leads steps start wire → Comes asked start awaits_set_up wire
-  setting_up steps wire so leads =
-      let parts = set_up_said so.before [] wire so.accepted (subst (λ (l : List Step). Leads l start wire) so.steps_are leads) in
-      subst (λ (w : Wire). Comes asked start awaits_set_up w) (leads_none parts.0 wire parts.2) parts.1
+  setting_up : (peer : Peer) (steps : List Step) (wire : Wire) → IsSettingUp asked.user asked.password peer steps → Leads steps start wire → Comes asked start (awaits_set_up peer.ends) wire
+  setting_up peer steps wire so leads =
+      let parts = set_up_said peer so.before [] wire so.accepted (subst (λ (l : List Step). Leads l start wire) so.steps_are leads) in
+      subst (λ (w : Wire). Comes asked start (awaits_set_up peer.ends) w) (leads_none parts.0 wire parts.2) parts.1
 
   halt_at_login : (steps : List Step) (awaited : Awaited) (middle new : Wire) (fault : SessionFault) → LoginAwaits asked.user asked.password steps awaited → Leads steps start middle → Halts awaited middle fault new → Ends asked start fault new.sent
   halt_at_login steps awaited middle new fault (a_greeting is) leads halts =
       halts_ends awaits_greeting middle new (subst (λ (w : Wire). Comes asked start awaits_greeting w) (leads_none start middle (subst (λ (l : List Step). Leads l start middle) is leads)) at_start) greeting refl fault halts
-  halt_at_login steps awaited middle new fault (a_decision so) leads halts = halts_ends awaits_decision middle new (greeted steps middle so leads) decision refl fault halts
-  halt_at_login steps awaited middle new fault (an_acceptance so) leads halts = halts_ends awaits_acceptance middle new (switched steps middle so leads) (done Connect) refl fault halts
-  halt_at_login steps awaited middle new fault (a_set_up so) leads halts = halts_ends awaits_set_up middle new (setting_up steps middle so leads) (done Set) refl fault halts
+  halt_at_login steps awaited middle new fault (a_decision {peer = peer} so) leads halts = halts_ends (awaits_decision peer.ends) middle new (greeted peer steps middle so leads) decision refl fault halts
+  halt_at_login steps awaited middle new fault (an_acceptance {peer = peer} so) leads halts = halts_ends (awaits_acceptance peer.ends) middle new (switched peer steps middle so leads) (done Connect) refl fault halts
+  halt_at_login steps awaited middle new fault (a_set_up {peer = peer} so) leads halts = halts_ends (awaits_set_up peer.ends) middle new (setting_up peer steps middle so leads) (done Set) refl fault halts
 
   unsaid_at_login : (steps : List Step) (payload : List ℕ) (middle new : Wire) (fault : SessionFault) → LoginSends asked.user asked.password steps payload → Leads steps start middle → Unsaid payload middle fault new → Ends asked start fault new.sent
   unsaid_at_login steps payload middle new fault (the_response so) leads unsaid =
-      let own = response asked.user (password_answer asked.password so.found.scramble) in
+      let own = response asked.user (password_answer asked.password so.found.scramble) so.found.ends in
       let first = leads_message so.message [] start middle (subst (λ (l : List Step). Leads l start middle) so.steps_are leads) in
-      let comes = subst (λ (w : Wire). Comes asked start (sends_response so.found.scramble) w) (leads_none first.middle middle first.leads) (greeting_heard so.message so.found first.middle so.read first.hears) in
-      unsaid_ends (sends_response so.found.scramble) middle new comes awaits_decision own (inr refl) fault (subst (λ (p : List ℕ). Unsaid p middle fault new) so.payload_is unsaid)
+      let comes = subst (λ (w : Wire). Comes asked start (sends_response so.found.scramble so.found.ends) w) (leads_none first.middle middle first.leads) (greeting_heard so.message so.found first.middle so.read first.hears) in
+      unsaid_ends (sends_response so.found.scramble so.found.ends) middle new comes (awaits_decision so.found.ends) own (inr refl) fault (subst (λ (p : List ℕ). Unsaid p middle fault new) so.payload_is unsaid)
   unsaid_at_login steps payload middle new fault (the_switch_answer so) leads unsaid =
       let own = switch_answer (password_answer asked.password so.found.scramble) in
       let parts = apart so.before (hears so.message ∷ []) start middle (subst (λ (l : List Step). Leads l start middle) so.steps_are leads) in
       let first = leads_message so.message [] parts.middle middle parts.later in
-      let comes = subst (λ (w : Wire). Comes asked start (sends_switch_answer so.found.scramble) w) (leads_none first.middle middle first.leads) (switch_heard so.before so.message so.found parts.middle first.middle so.greeted parts.first first.hears so.goes_on so.read) in
-      unsaid_ends (sends_switch_answer so.found.scramble) middle new comes awaits_acceptance own (inr refl) fault (subst (λ (p : List ℕ). Unsaid p middle fault new) so.payload_is unsaid)
-  unsaid_at_login steps payload middle new fault (the_set_up so is) leads unsaid =
-      unsaid_ends sends_set_up middle new (accepted steps middle so leads) awaits_set_up (command_payload SetUp) (inl refl) fault (subst (λ (p : List ℕ). Unsaid p middle fault new) is unsaid)
+      let comes = subst (λ (w : Wire). Comes asked start (sends_switch_answer so.found.scramble so.peer.ends) w) (leads_none first.middle middle first.leads) (switch_heard so.peer so.before so.message so.found parts.middle first.middle so.greeted parts.first first.hears so.goes_on so.read) in
+      unsaid_ends (sends_switch_answer so.found.scramble so.peer.ends) middle new comes (awaits_acceptance so.peer.ends) own (inr refl) fault (subst (λ (p : List ℕ). Unsaid p middle fault new) so.payload_is unsaid)
+  unsaid_at_login steps payload middle new fault (the_set_up {peer = peer} so is) leads unsaid =
+      unsaid_ends (sends_set_up peer.ends) middle new (accepted peer steps middle so leads) (awaits_set_up peer.ends) (command_payload SetUp) (inl refl) fault (subst (λ (p : List ℕ). Unsaid p middle fault new) is unsaid)
 
   pub login_ends : (new : Wire) (fault : SessionFault) → Stops (LoginAwaits asked.user asked.password) (LoginSends asked.user asked.password) start fault new → Ends asked start fault new.sent
   login_ends new fault (at_message {steps = steps} {awaited = awaited} {middle = middle} awaits leads halts) = halt_at_login steps awaited middle new fault awaits leads halts
@@ -270,7 +273,7 @@ module _ (asked : Asked) (start : Wire) where
 
   -- ---- a query that no USE leads
 
-  module _ (query : Query) (stage next : Stage) (final : Reading → Stage) (sends : doing asked stage ≡ commanding (query_payload (query_text query)) next) (waits : doing asked next ≡ awaiting (count (query_form query))) (turns : (message : List ℕ) → stage_after next message ≡ after_count final (reply_of message))
+  module _ (ending : Ending) (query : Query) (stage next : Stage) (final : Reading → Stage) (sends : doing asked stage ≡ commanding (query_payload (query_text query)) next) (waits : doing asked next ≡ awaiting (count (query_form query))) (turns : (message : List ℕ) → stage_after next message ≡ after_count ending final (reply_of message))
       (waits_on : (reading : Reading) → doing asked (final reading) ≡ awaiting (further (query_form query) reading)) (turns_on : (reading : Reading) (message : List ℕ) → further_of reading message ≡ definition → stage_after (final reading) message ≡ Some (final (reading_after reading definition)))
       (led : (steps : List Step) → IsLed query steps → steps ≡ []) (none_awaited : (steps : List Step) (awaited : Awaited) → LeadAwaits query steps awaited → ⊥) (none_sent : (steps : List Step) (payload : List ℕ) → LeadSends query steps payload → ⊥) (old new : Wire) (comes : Comes asked start stage old) where
     asked_so : (steps rest : List Step) (wire : Wire) → IsAsked query steps → Leads (steps ++ rest) old wire → (middle : Wire) × Comes asked start next middle × Leads rest middle wire
@@ -297,12 +300,14 @@ module _ (asked : Asked) (start : Wire) where
         let left : reading.awaited - 1 - length others ≡ reading.awaited - suc (length others) = omega arith in
         subst (λ (n : ℕ). Comes asked start (final (record reading { awaited = n })) wire) left later
 
-    pub described : (steps : List Step) (reading : Reading) (wire : Wire) → IsDescribed query steps reading → Leads steps old wire → Comes asked start (final reading) wire
-    described steps reading wire so leads =
+    pub described : (steps : List Step) (reading : Reading) (wire : Wire) → reading.ends ≡ ending → IsDescribed query steps reading → Leads steps old wire → Comes asked start (final reading) wire
+    described steps reading wire same so leads =
         let parts = asked_so so.before (hears so.first ∷ map (λ message. hears message) so.others) wire so.asked (subst (λ (l : List Step). Leads l old wire) so.steps_are leads) in
         let first = leads_message so.first (map (λ message. hears message) so.others) parts.0 wire parts.2 in
-        let there = heard parts.1 waits first.hears (ap (λ (r : Option Reply). count_fault (query_form query) parts.0.place r) so.reply) (turns so.first ∙ ap (λ (r : Option Reply). after_count final r) so.reply) in
-        subst (λ (r : Reading). Comes asked start (final r) wire) (sym so.reading_is) (walked so.others (columns_counted so.columns) first.middle wire so.turns first.leads there)
+        let there = heard parts.1 waits first.hears (ap (λ (r : Option Reply). count_fault (query_form query) parts.0.place r) so.reply) (turns so.first ∙ ap (λ (r : Option Reply). after_count ending final r) so.reply) in
+        let turned : turns_of (columns_counted ending so.columns) so.others ≡ replicate (length so.others) definition = subst (λ (e : Ending). turns_of (columns_counted e so.columns) so.others ≡ replicate (length so.others) definition) same so.turns in
+        let is : reading ≡ record { columns = so.columns; awaited = awaited_count ending so.columns - length so.others; ends = ending } = so.reading_is ∙ ap (λ (e : Ending). let r : Reading = record { columns = so.columns; awaited = awaited_count e so.columns - length so.others; ends = e } in r) same in
+        subst (λ (r : Reading). Comes asked start (final r) wire) (sym is) (walked so.others (columns_counted ending so.columns) first.middle wire turned first.leads there)
 
     counting : (steps : List Step) (wire : Wire) → IsAsked query steps → Leads steps old wire → Comes asked start next wire
     counting steps wire so leads =
@@ -310,10 +315,10 @@ module _ (asked : Asked) (start : Wire) where
         let first = leads_command (query_payload (query_text query)) [] old wire (subst (λ (l : List Step). Leads l old wire) own leads) in
         subst (λ (w : Wire). Comes asked start next w) (leads_none (after_sent 0 (query_payload (query_text query)) old) wire first.1) (commanded comes sends first.0)
 
-    halt_at_query : (steps : List Step) (awaited : Awaited) (middle : Wire) (fault : SessionFault) → QueryAwaits query steps awaited → Leads steps old middle → Halts awaited middle fault new → Ends asked start fault new.sent
+    halt_at_query : (steps : List Step) (awaited : Awaited) (middle : Wire) (fault : SessionFault) → QueryAwaits ending query steps awaited → Leads steps old middle → Halts awaited middle fault new → Ends asked start fault new.sent
     halt_at_query steps awaited middle fault (a_lead lead) leads halts = absurd (none_awaited steps awaited lead)
     halt_at_query steps awaited middle fault (a_count so) leads halts = halts_ends next middle new (counting steps middle so leads) (count (query_form query)) waits fault halts
-    halt_at_query steps awaited middle fault (a_definition {reading = reading} so) leads halts = halts_ends (final reading) middle new (described steps reading middle so leads) (further (query_form query) reading) (waits_on reading) fault halts
+    halt_at_query steps awaited middle fault (a_definition {reading = reading} same so) leads halts = halts_ends (final reading) middle new (described steps reading middle same so leads) (further (query_form query) reading) (waits_on reading) fault halts
 
     unsaid_at_query : (steps : List Step) (payload : List ℕ) (middle : Wire) (fault : SessionFault) → QuerySends query steps payload → Leads steps old middle → Unsaid payload middle fault new → Ends asked start fault new.sent
     unsaid_at_query steps payload middle fault (the_lead lead) leads unsaid = absurd (none_sent steps payload lead)
@@ -321,6 +326,6 @@ module _ (asked : Asked) (start : Wire) where
         let same = leads_none old middle (subst (λ (l : List Step). Leads l old middle) (led steps so) leads) in
         unsaid_ends stage middle new (subst (λ (w : Wire). Comes asked start stage w) same comes) next (query_payload (query_text query)) (inl sends) fault (subst (λ (p : List ℕ). Unsaid p middle fault new) is unsaid)
 
-    pub query_ends : (fault : SessionFault) → Stops (QueryAwaits query) (QuerySends query) old fault new → Ends asked start fault new.sent
+    pub query_ends : (fault : SessionFault) → Stops (QueryAwaits ending query) (QuerySends query) old fault new → Ends asked start fault new.sent
     query_ends fault (at_message {steps = steps} {awaited = awaited} {middle = middle} awaits leads halts) = halt_at_query steps awaited middle fault awaits leads halts
     query_ends fault (at_payload {steps = steps} {payload = payload} {middle = middle} so leads unsaid) = unsaid_at_query steps payload middle fault so leads unsaid

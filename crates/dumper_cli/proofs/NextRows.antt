@@ -5,6 +5,8 @@ use Rattle.link_traits.specs.declared.folder.Shelf.{Ghosts as ShelfGhosts}
 use Rattle.my_session.specs.Awaited.{further}
 use Rattle.my_session.specs.Session.{SessionView, ReaderView, Pending, NextRow, wire_of}
 use Rattle.my_session.specs.declared.fault.SessionFault.{SessionFault}
+use Rattle.my_session.specs.declared.peer.Peer.{Peer}
+use Rattle.wire_forms.specs.Reading.{idle}
 use Rattle.my_session.specs.declared.fault.SessionFault.TheVariants.{Link, Refused, Garbled, NotProtocol10, PluginUnsupported, TooLong, StreamTooLong, OutOfMemory}
 use Rattle.result_rows.specs.RowCells.{row_cells}
 use Rattle.result_rows.specs.declared.row.Row.{Row}
@@ -23,7 +25,7 @@ use Rattle.dumper_cli.proofs.Reaching.{Keeps-by, column_added, row_added, column
 
 -- a session as a reader of rows
 abbrev pub as_reader : {L : Type 0} → LinkGhosts L → SessionView L → ReaderView
-as_reader of session = record { wire = wire_of of session; faults = of.faults session.link; has_failed = session.has_failed; pending = session.pending }
+as_reader of session = record { wire = wire_of of session; faults = of.faults session.link; peer = session.peer; has_failed = session.has_failed; pending = session.pending }
 
 -- what the next row does to a session
 abbrev pub Nexts : {L : Type 0} → LinkGhosts L → SessionView L → Result (Option Row) SessionFault → SessionView L → Type 0
@@ -31,7 +33,7 @@ Nexts of old result new = NextRow (of.tells old.link) (as_reader of old) result 
 
 module _ {L : Type 0} (of : LinkGhosts L) (joins : (one next last : L) → of.same_origin one next → of.same_origin next last → of.same_origin one last) (old new : SessionView L) where
   pub nexts_keeps : (result : Result (Option Row) SessionFault) → Nexts of old result new → Keeps of old new
-  nexts_keeps result next = Keeps-by of joins old new next.0.still next.0.counted.later next.1 next.2
+  nexts_keeps result next = Keeps-by of joins old new next.0.still next.0.counted.later next.1 next.2 next.0.peer
 
   module _ (has_rows : HasRows old) where
     -- ---- a row
@@ -44,6 +46,7 @@ module _ {L : Type 0} (of : LinkGhosts L) (joins : (one next last : L) → of.sa
             alive = next.0.has_failed;
             some = subst (λ (p : Pending). 0 < p.reading.columns) (sym same) has_rows.some;
             rows = ap (λ (p : Pending). p.reading.awaited) same ∙ has_rows.rows;
+            ends = ap (λ (p : Pending). p.reading.ends) same ∙ has_rows.ends ∙ ap (λ (p : Peer). p.ends) (sym next.0.peer);
             form = ap (λ (p : Pending). p.form) same ∙ has_rows.form;
           }
 
@@ -102,7 +105,7 @@ module _ {L : Type 0} (of : LinkGhosts L) (joins : (one next last : L) → of.sa
 
     module _ (next : Nexts of old (Ok None) new) where
       end_ready : IsReady new
-      end_ready = record { alive = next.0.has_failed; none_pending = next.0.pending }
+      end_ready = record { alive = next.0.has_failed; none_pending = next.0.pending ∙ ap (λ (p : Peer). idle p.ends) (sym next.0.peer) }
 
       end_keeps : Keeps of old new
       end_keeps = nexts_keeps (Ok None) next
@@ -111,7 +114,7 @@ module _ {L : Type 0} (of : LinkGhosts L) (joins : (one next last : L) → of.sa
       nexts_columns_end columns some = record {
         ready = end_ready;
         some = some;
-        reached = λ asked start at. columns_end of asked start old new end_keeps next.0.takes columns some at;
+        reached = λ asked start at. columns_end of asked start old new end_keeps next.0.takes columns some has_rows.ends at;
       }
 
       pub nexts_no_columns : (columns : List Column) → length columns ≡ 0 → (asked : Asked) (start : Start) → Reached of asked (awaits_columns old.pending.reading columns) start old → Halted of asked start new.link (Garbled old.place)

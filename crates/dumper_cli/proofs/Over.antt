@@ -36,8 +36,8 @@ module _ {L : Type 0} (of : LinkGhosts L) (asked : Asked) where
   abbrev pub start_of : L → Start
   start_of link = record { wire = fresh of link; faults = of.faults link }
 
-  pub reached_by_login : (a : L) (session : SessionView L) → LoggedIn of asked.user asked.password a session → Reached of asked sends_names (start_of a) session
-  reached_by_login a session logged = record { later = logged.later; comes = λ t. logged_in asked (fresh of a) (wire_of of session) (logged.takes (logged.tells.1 t)) }
+  pub reached_by_login : (a : L) (session : SessionView L) → LoggedIn of asked.user asked.password a session → Reached of asked (sends_names session.peer.ends) (start_of a) session
+  reached_by_login a session logged = record { later = logged.later; comes = λ t. logged_in asked (fresh of a) session.peer (wire_of of session) (logged.takes (logged.tells.1 t)) }
 
 module _ {L S : Type 0} (link : LinkGhosts L) (shelf : ShelfGhosts S) (asked : Asked) where
   -- a run that broke off, where the shelves are these
@@ -46,7 +46,7 @@ module _ {L S : Type 0} (link : LinkGhosts L) (shelf : ShelfGhosts S) (asked : A
       subst (λ (s : S). Broke link shelf asked start s new last fault) same (subst (λ (s : S). Broke link shelf asked start first new s fault) (sym same_too) broke)
 
   -- the rows of a table, after the query for them
-  pub Conversed-tabled : (columns : List Column) (session middle new : SessionView L) (before after : S) → ((start : Start) → Reached link asked sends_names start session → Reached link asked (awaits_rows middle.pending.reading columns []) start middle) → Tabled link shelf asked.schema asked.table columns middle before new after → Conversed link shelf asked session before new after
+  pub Conversed-tabled : (columns : List Column) (session middle new : SessionView L) (before after : S) → ((start : Start) → Reached link asked (sends_names session.peer.ends) start session → Reached link asked (awaits_rows middle.pending.reading columns []) start middle) → Tabled link shelf asked.schema asked.table columns middle before new after → Conversed link shelf asked session before new after
   Conversed-tabled columns session middle new before after reached tabled = record {
     columns = columns;
     rows = tabled.rows;
@@ -116,7 +116,7 @@ module _ {L S : Type 0} (link : LinkGhosts L) (shelf : ShelfGhosts S) (asked : A
     said_by false is t front = record { sent = (link.told new.link).sent; front = front; sent_is = elim (closes.quits is (closes.tells.1 t)) [ inl e ↦ inr e | inr e ↦ inl e.0 ] }
 
     -- a run that broke off
-    pub LinkStopped-broke : (fault : DumpFault) → ((start : Start) → Reached link asked sends_names start session → Broke link shelf asked start before new.link after fault) → LinkStopped link shelf asked a before b after fault
+    pub LinkStopped-broke : (fault : DumpFault) → ((start : Start) → Reached link asked (sends_names session.peer.ends) start session → Broke link shelf asked start before new.link after fault) → LinkStopped link shelf asked a before b after fault
     LinkStopped-broke fault broke =
         let off = broke (start_of link asked a) (reached_by_login link asked a session logged) in
         record {

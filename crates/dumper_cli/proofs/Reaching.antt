@@ -7,8 +7,10 @@ use Rattle.my_session.specs.Awaited.{further, further_fault}
 use Rattle.my_session.specs.Halt.{Halts}
 use Rattle.my_session.specs.Session.{SessionView, Pending, wire_of, IsCounted, Runs, Asks, HearsRow, HearsEnd, rows_of}
 use Rattle.my_session.specs.Wire.{Hears}
+use Rattle.my_session.specs.declared.peer.Peer.{Peer}
 use Rattle.my_session.specs.declared.fault.SessionFault.{SessionFault}
 use Rattle.my_session.specs.declared.fault.SessionFault.TheVariants.{Link, Refused, Garbled, NotProtocol10, PluginUnsupported, TooLong, StreamTooLong, OutOfMemory}
+use Rattle.wire_forms.specs.declared.ends.Ends.{Ends as Ending}
 use Rattle.wire_forms.specs.Reading.{Reading, Further, definition, row, end, reading_after, further_of}
 use Rattle.result_rows.specs.RowCells.{row_cells}
 use Rattle.result_rows.specs.declared.row.Row.{Row}
@@ -31,7 +33,7 @@ Rose-later a b c le rose = omega arith
 
 module _ {L : Type 0} (of : Ghosts L) where
   pub Keeps-same : (a : SessionView L) → Keeps of a a
-  Keeps-same a = record { tells = (λ t. t, λ t. t); later = omega arith; honest = (λ h. h, λ h. h); origin = λ first same. same }
+  Keeps-same a = record { tells = (λ t. t, λ t. t); later = omega arith; honest = (λ h. h, λ h. h); origin = λ first same. same; peer = refl }
 
   pub Keeps-then : (a b c : SessionView L) → Keeps of a b → Keeps of b c → Keeps of a c
   Keeps-then a b c one two = record {
@@ -39,11 +41,12 @@ module _ {L : Type 0} (of : Ghosts L) where
     later = let first = one.later in let second = two.later in omega arith;
     honest = (λ h. two.honest.0 (one.honest.0 h), λ h. one.honest.1 (two.honest.1 h));
     origin = λ first same. two.origin first (one.origin first same);
+    peer = two.peer ∙ one.peer;
   }
 
   -- what a call of the session says
-  pub Keeps-by : ((one next last : L) → of.same_origin one next → of.same_origin next last → of.same_origin one last) → (a b : SessionView L) → (of.tells a.link ↔ of.tells b.link) → of.faults a.link ≤ of.faults b.link → (of.honest a.link ↔ of.honest b.link) → of.same_origin a.link b.link → Keeps of a b
-  Keeps-by joins a b tells later honest origin = record { tells = tells; later = later; honest = honest; origin = λ first same. joins first a.link b.link same origin }
+  pub Keeps-by : ((one next last : L) → of.same_origin one next → of.same_origin next last → of.same_origin one last) → (a b : SessionView L) → (of.tells a.link ↔ of.tells b.link) → of.faults a.link ≤ of.faults b.link → (of.honest a.link ↔ of.honest b.link) → of.same_origin a.link b.link → b.peer ≡ a.peer → Keeps of a b
+  Keeps-by joins a b tells later honest origin peer = record { peer = peer; tells = tells; later = later; honest = honest; origin = λ first same. joins first a.link b.link same origin }
 
 module _ {L : Type 0} (of : Ghosts L) (asked : Asked) where
   -- the run goes on at the next stage
@@ -79,19 +82,20 @@ module _ {L : Type 0} (of : Ghosts L) (asked : Asked) where
 -- ---- SET NAMES
 
 module _ {L : Type 0} (of : Ghosts L) (old new : SessionView L) where
-  pub names_ok : (result : Result (Unit {0}) SessionFault) → Keeps of old new → (of.tells old.link → Runs NamesBinary (wire_of of old) result (wire_of of new)) → OnOk result ((asked : Asked) (start : Start) → Reached of asked sends_names start old → Reached of asked asks_columns start new)
-  names_ok (Ok finished) keeps runs = λ asked start. reached_by of asked sends_names asks_columns start old new keeps (λ t comes. ran asked start.wire NamesBinary sends_names awaits_names asks_columns refl refl (λ message. refl) (wire_of of old) (wire_of of new) comes (runs t))
+  pub names_ok : (result : Result (Unit {0}) SessionFault) → Keeps of old new → (of.tells old.link → Runs NamesBinary (wire_of of old) result (wire_of of new)) → OnOk result ((asked : Asked) (start : Start) → Reached of asked (sends_names old.peer.ends) start old → Reached of asked (asks_columns new.peer.ends) start new)
+  names_ok (Ok finished) keeps runs = λ asked start. reached_by of asked (sends_names old.peer.ends) (asks_columns new.peer.ends) start old new keeps (λ t comes. subst (λ (p : Peer). Comes asked start.wire (asks_columns p.ends) (wire_of of new)) (sym keeps.peer) (ran asked start.wire NamesBinary (sends_names old.peer.ends) (awaits_names old.peer.ends) (asks_columns old.peer.ends) refl refl (λ message. refl) (wire_of of old) (wire_of of new) comes (runs t)))
   names_ok (Err fault) keeps runs = tt
 
-  pub names_err : (result : Result (Unit {0}) SessionFault) → (of.tells old.link ↔ of.tells new.link) → IsCounted (of.faults old.link) (of.faults new.link) result → (of.tells old.link → Runs NamesBinary (wire_of of old) result (wire_of of new)) → IfErr result (λ fault. (asked : Asked) (start : Start) → Reached of asked sends_names start old → Halted of asked start new.link fault)
+  pub names_err : (result : Result (Unit {0}) SessionFault) → (of.tells old.link ↔ of.tells new.link) → IsCounted (of.faults old.link) (of.faults new.link) result → (of.tells old.link → Runs NamesBinary (wire_of of old) result (wire_of of new)) → IfErr result (λ fault. (asked : Asked) (start : Start) → Reached of asked (sends_names old.peer.ends) start old → Halted of asked start new.link fault)
   names_err (Ok finished) tells counted runs = tt
-  names_err (Err fault) tells counted runs = λ asked start. halted_by of asked sends_names start old new.link fault tells counted.later (λ e. counted.failed (ap (λ (f : SessionFault). Err f) e)) (λ t comes. run_ends asked start.wire NamesBinary sends_names awaits_names asks_columns refl refl (λ message. refl) (wire_of of old) (wire_of of new) comes fault (runs t))
+  names_err (Err fault) tells counted runs = λ asked start. halted_by of asked (sends_names old.peer.ends) start old new.link fault tells counted.later (λ e. counted.failed (ap (λ (f : SessionFault). Err f) e)) (λ t comes. run_ends asked start.wire NamesBinary (sends_names old.peer.ends) (awaits_names old.peer.ends) (asks_columns old.peer.ends) refl refl (λ message. refl) (wire_of of old) (wire_of of new) comes fault (runs t))
 
 -- ---- the queries
 
 -- rows of a SELECT are pending after it
-pub HasRows-asked : {L : Type 0} (new : SessionView L) (columns : ℕ) → new.has_failed ≡ false → 0 < columns → new.pending ≡ record { reading = rows_of columns; form = Select } → HasRows new
-HasRows-asked new columns alive some pending = record {
+pub HasRows-asked : {L : Type 0} (new : SessionView L) (ends : Ending) (columns : ℕ) → new.has_failed ≡ false → 0 < columns → ends ≡ new.peer.ends → new.pending ≡ record { reading = rows_of ends columns; form = Select } → HasRows new
+HasRows-asked new ends columns alive some same pending = record {
+  ends = ap (λ (p : Pending). p.reading.ends) pending ∙ same;
   alive = alive;
   some = subst (λ (p : Pending). 0 < p.reading.columns) (sym pending) some;
   rows = ap (λ (p : Pending). p.reading.awaited) pending;
@@ -106,24 +110,24 @@ row_turns columns reading message is = ap (λ (f : Further). after_rows reading 
 
 module _ {L : Type 0} (of : Ghosts L) (asked : Asked) (old new : SessionView L) where
   module _ (columns : ℕ) where
-    pub columns_asked : Keeps of old new → new.pending.reading ≡ rows_of columns → (of.tells old.link → Asks (ColumnsQuery asked.schema asked.table) (wire_of of old) (Ok columns) (wire_of of new)) → (start : Start) → Reached of asked asks_columns start old → Reached of asked (awaits_columns new.pending.reading []) start new
-    columns_asked keeps pending asks start = reached_by of asked asks_columns (awaits_columns new.pending.reading []) start old new keeps (λ t comes.
+    pub columns_asked : Keeps of old new → new.pending.reading ≡ rows_of old.peer.ends columns → (of.tells old.link → Asks old.peer.ends (ColumnsQuery asked.schema asked.table) (wire_of of old) (Ok columns) (wire_of of new)) → (start : Start) → Reached of asked (asks_columns old.peer.ends) start old → Reached of asked (awaits_columns new.pending.reading []) start new
+    columns_asked keeps pending asks start = reached_by of asked (asks_columns old.peer.ends) (awaits_columns new.pending.reading []) start old new keeps (λ t comes.
         subst (λ (r : Reading). Comes asked start.wire (awaits_columns r []) (wire_of of new)) (sym pending)
-        (described asked start.wire (ColumnsQuery asked.schema asked.table) asks_columns awaits_column_count (λ reading. awaits_columns reading []) refl refl (λ message. refl) (λ reading. refl) column_turns (λ steps is. is) (λ steps awaited lead. lead) (λ steps payload lead. lead) (wire_of of old) (wire_of of new) comes (asks t).steps (rows_of columns) (wire_of of new) (asks t).so (asks t).leads))
+        (described asked start.wire old.peer.ends (ColumnsQuery asked.schema asked.table) (asks_columns old.peer.ends) (awaits_column_count old.peer.ends) (λ reading. awaits_columns reading []) refl refl (λ message. refl) (λ reading. refl) column_turns (λ steps is. is) (λ steps awaited lead. lead) (λ steps payload lead. lead) (wire_of of old) (wire_of of new) comes (asks t).steps (rows_of old.peer.ends columns) (wire_of of new) refl (asks t).so (asks t).leads))
 
-    pub rows_asked : (list : List Column) → Keeps of old new → new.pending.reading ≡ rows_of columns → (of.tells old.link → Asks (Rows (column_names list) asked.schema asked.table) (wire_of of old) (Ok columns) (wire_of of new)) → (start : Start) → Reached of asked (asks_rows list) start old → Reached of asked (awaits_rows new.pending.reading list []) start new
-    rows_asked list keeps pending asks start = reached_by of asked (asks_rows list) (awaits_rows new.pending.reading list []) start old new keeps (λ t comes.
+    pub rows_asked : (list : List Column) → Keeps of old new → new.pending.reading ≡ rows_of old.peer.ends columns → (of.tells old.link → Asks old.peer.ends (Rows (column_names list) asked.schema asked.table) (wire_of of old) (Ok columns) (wire_of of new)) → (start : Start) → Reached of asked (asks_rows old.peer.ends list) start old → Reached of asked (awaits_rows new.pending.reading list []) start new
+    rows_asked list keeps pending asks start = reached_by of asked (asks_rows old.peer.ends list) (awaits_rows new.pending.reading list []) start old new keeps (λ t comes.
         subst (λ (r : Reading). Comes asked start.wire (awaits_rows r list []) (wire_of of new)) (sym pending)
-        (described asked start.wire (Rows (column_names list) asked.schema asked.table) (asks_rows list) (awaits_row_count list) (λ reading. awaits_rows reading list []) refl refl (λ message. refl) (λ reading. refl) (row_turns list) (λ steps is. is) (λ steps awaited lead. lead) (λ steps payload lead. lead) (wire_of of old) (wire_of of new) comes (asks t).steps (rows_of columns) (wire_of of new) (asks t).so (asks t).leads))
+        (described asked start.wire old.peer.ends (Rows (column_names list) asked.schema asked.table) (asks_rows old.peer.ends list) (awaits_row_count old.peer.ends list) (λ reading. awaits_rows reading list []) refl refl (λ message. refl) (λ reading. refl) (row_turns list) (λ steps is. is) (λ steps awaited lead. lead) (λ steps payload lead. lead) (wire_of of old) (wire_of of new) comes (asks t).steps (rows_of old.peer.ends columns) (wire_of of new) refl (asks t).so (asks t).leads))
 
   module _ (fault : SessionFault) (tells : of.tells old.link ↔ of.tells new.link) (counted : IsCounted {A = ℕ} (of.faults old.link) (of.faults new.link) (Err fault)) where
-    pub columns_unasked : (of.tells old.link → Asks (ColumnsQuery asked.schema asked.table) (wire_of of old) (Err fault) (wire_of of new)) → (start : Start) → Reached of asked asks_columns start old → Halted of asked start new.link fault
-    columns_unasked asks start = halted_by of asked asks_columns start old new.link fault tells counted.later (λ e. counted.failed (ap (λ (f : SessionFault). Err f) e)) (λ t comes.
-        query_ends asked start.wire (ColumnsQuery asked.schema asked.table) asks_columns awaits_column_count (λ reading. awaits_columns reading []) refl refl (λ message. refl) (λ reading. refl) column_turns (λ steps is. is) (λ steps awaited lead. lead) (λ steps payload lead. lead) (wire_of of old) (wire_of of new) comes fault (asks t))
+    pub columns_unasked : (of.tells old.link → Asks old.peer.ends (ColumnsQuery asked.schema asked.table) (wire_of of old) (Err fault) (wire_of of new)) → (start : Start) → Reached of asked (asks_columns old.peer.ends) start old → Halted of asked start new.link fault
+    columns_unasked asks start = halted_by of asked (asks_columns old.peer.ends) start old new.link fault tells counted.later (λ e. counted.failed (ap (λ (f : SessionFault). Err f) e)) (λ t comes.
+        query_ends asked start.wire old.peer.ends (ColumnsQuery asked.schema asked.table) (asks_columns old.peer.ends) (awaits_column_count old.peer.ends) (λ reading. awaits_columns reading []) refl refl (λ message. refl) (λ reading. refl) column_turns (λ steps is. is) (λ steps awaited lead. lead) (λ steps payload lead. lead) (wire_of of old) (wire_of of new) comes fault (asks t))
 
-    pub rows_unasked : (list : List Column) → (of.tells old.link → Asks (Rows (column_names list) asked.schema asked.table) (wire_of of old) (Err fault) (wire_of of new)) → (start : Start) → Reached of asked (asks_rows list) start old → Halted of asked start new.link fault
-    rows_unasked list asks start = halted_by of asked (asks_rows list) start old new.link fault tells counted.later (λ e. counted.failed (ap (λ (f : SessionFault). Err f) e)) (λ t comes.
-        query_ends asked start.wire (Rows (column_names list) asked.schema asked.table) (asks_rows list) (awaits_row_count list) (λ reading. awaits_rows reading list []) refl refl (λ message. refl) (λ reading. refl) (row_turns list) (λ steps is. is) (λ steps awaited lead. lead) (λ steps payload lead. lead) (wire_of of old) (wire_of of new) comes fault (asks t))
+    pub rows_unasked : (list : List Column) → (of.tells old.link → Asks old.peer.ends (Rows (column_names list) asked.schema asked.table) (wire_of of old) (Err fault) (wire_of of new)) → (start : Start) → Reached of asked (asks_rows old.peer.ends list) start old → Halted of asked start new.link fault
+    rows_unasked list asks start = halted_by of asked (asks_rows old.peer.ends list) start old new.link fault tells counted.later (λ e. counted.failed (ap (λ (f : SessionFault). Err f) e)) (λ t comes.
+        query_ends asked start.wire old.peer.ends (Rows (column_names list) asked.schema asked.table) (asks_rows old.peer.ends list) (awaits_row_count old.peer.ends list) (λ reading. awaits_rows reading list []) refl refl (λ message. refl) (λ reading. refl) (row_turns list) (λ steps is. is) (λ steps awaited lead. lead) (λ steps payload lead. lead) (wire_of of old) (wire_of of new) comes fault (asks t))
 
 -- ---- the rows
 
@@ -180,23 +184,24 @@ module _ {L : Type 0} (of : Ghosts L) (asked : Asked) (start : Start) (old new :
         let last = hears t in
         heard comes refl last.heard (end_goes_on last.message last.end_is) (ap (λ (f : Further). after_rows old.pending.reading columns rows f) last.end_is))
 
-    columns_so : (columns : List Column) → 0 < length columns → with_columns columns ≡ Some (asks_rows columns)
-    columns_so [] some = absurd (omega arith)
-    columns_so (column ∷ columns) some = refl
+    columns_so : (ends : Ending) (columns : List Column) → 0 < length columns → with_columns ends columns ≡ Some (asks_rows ends columns)
+    columns_so ends [] some = absurd (omega arith)
+    columns_so ends (column ∷ columns) some = refl
 
-    columns_none : (columns : List Column) → length columns ≡ 0 → with_columns columns ≡ None
-    columns_none [] none = refl
-    columns_none (column ∷ columns) none = absurd (omega (arith, none))
+    columns_none : (ends : Ending) (columns : List Column) → length columns ≡ 0 → with_columns ends columns ≡ None
+    columns_none ends [] none = refl
+    columns_none ends (column ∷ columns) none = absurd (omega (arith, none))
 
-    pub columns_end : (columns : List Column) → 0 < length columns → Reached of asked (awaits_columns old.pending.reading columns) start old → Reached of asked (asks_rows columns) start new
-    columns_end columns some = reached_by of asked (awaits_columns old.pending.reading columns) (asks_rows columns) start old new keeps (λ t comes.
+    pub columns_end : (columns : List Column) → 0 < length columns → old.pending.reading.ends ≡ old.peer.ends → Reached of asked (awaits_columns old.pending.reading columns) start old → Reached of asked (asks_rows new.peer.ends columns) start new
+    columns_end columns some same = reached_by of asked (awaits_columns old.pending.reading columns) (asks_rows new.peer.ends columns) start old new keeps (λ t comes.
         let last = hears t in
-        heard comes refl last.heard (end_goes_on last.message last.end_is) (ap (λ (f : Further). after_columns old.pending.reading columns f) last.end_is ∙ columns_so columns some))
+        subst (λ (e : Ending). Comes asked start.wire (asks_rows e columns) (wire_of of new)) (same ∙ ap (λ (p : Peer). p.ends) (sym keeps.peer))
+        (heard comes refl last.heard (end_goes_on last.message last.end_is) (ap (λ (f : Further). after_columns old.pending.reading columns f) last.end_is ∙ columns_so old.pending.reading.ends columns some)))
 
     pub no_columns : (columns : List Column) → length columns ≡ 0 → Reached of asked (awaits_columns old.pending.reading columns) start old → Halted of asked start new.link (Garbled old.place)
     no_columns columns none = halted_by of asked (awaits_columns old.pending.reading columns) start old new.link (Garbled old.place) keeps.tells keeps.later (λ e. absurd (cc)) (λ t comes.
         let last = hears t in
-        unfit_ends (awaits_columns old.pending.reading columns) refl last.message (ap (λ (f : Further). after_columns old.pending.reading columns f) last.end_is ∙ columns_none columns none) last.heard (end_goes_on last.message last.end_is) comes)
+        unfit_ends (awaits_columns old.pending.reading columns) refl last.message (ap (λ (f : Further). after_columns old.pending.reading columns f) last.end_is ∙ columns_none old.pending.reading.ends columns none) last.heard (end_goes_on last.message last.end_is) comes)
 
   module _ (form_is : old.pending.form ≡ Select) (fault : SessionFault) (failed : fault ≡ Link → Rose (of.faults old.link) (of.faults new.link)) (halts : of.tells old.link → Halts (further old.pending.form old.pending.reading) (wire_of of old) fault (wire_of of new)) where
     pub row_halts : (stage : Stage) → doing asked stage ≡ awaiting (further Select old.pending.reading) → Reached of asked stage start old → Halted of asked start new.link fault

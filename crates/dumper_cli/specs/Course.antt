@@ -1,6 +1,7 @@
 -- The course of a dump over a link, and the ways in which it ends.
 use Rattle.std.specs.Prelude.{ℕ, ◌≡◌, ◌<◌, ◌≤◌, ◌⊎◌, List, [], ◌∷◌, ◌++◌, length, Some, None}
 use Rattle.wire_forms.specs.Response.{response}
+use Rattle.wire_forms.specs.declared.ends.Ends.{Ends}
 use Rattle.my_packets.specs.Front.{IsTooLong}
 use Rattle.wire_forms.specs.Packet.{packets}
 use Rattle.my_session.specs.Awaited.{Awaited, fault_at}
@@ -72,8 +73,8 @@ AConversationHasOneOutcome = (asked : Asked) (start : Wire) → HasOneOutcome as
 -- the messages of a login: the response, and the answer to a switch request where one came
 abbrev pub AreOfLogin : Asked → List (List ℕ) → Type 0
 AreOfLogin asked messages =
-    ((id : ℕ) × (scramble : List ℕ) × (messages ≡ packets id (response asked.user (password_answer asked.password scramble)) ∷ []))
-    ⊎ ((id : ℕ) × (scramble : List ℕ) × (next : ℕ) × (other : List ℕ) × (messages ≡ packets id (response asked.user (password_answer asked.password scramble)) ∷ packets next (switch_answer (password_answer asked.password other)) ∷ []))
+    ((id : ℕ) × (scramble : List ℕ) × (ends : Ends) × (messages ≡ packets id (response asked.user (password_answer asked.password scramble) ends) ∷ []))
+    ⊎ ((id : ℕ) × (scramble : List ℕ) × (ends : Ends) × (next : ℕ) × (other : List ℕ) × (messages ≡ packets id (response asked.user (password_answer asked.password scramble) ends) ∷ packets next (switch_answer (password_answer asked.password other)) ∷ []))
 
 -- the messages of the statements of a dump
 abbrev pub statements : Asked → List Column → List (List ℕ)

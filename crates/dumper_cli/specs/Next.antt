@@ -20,13 +20,14 @@ use Rattle.dumper_cli.specs.declared.fault.DumpFault.TheVariants.{FolderNotEmpty
 -- the session can be asked something
 pub record IsReady {L : Type 0} (session : SessionView L) : Type 0 where
   pub alive : session.has_failed ≡ false
-  pub none_pending : session.pending.reading ≡ idle
+  pub none_pending : session.pending.reading ≡ idle session.peer.ends
 
 -- rows of a SELECT are pending
 pub record HasRows {L : Type 0} (session : SessionView L) : Type 0 where
   pub alive : session.has_failed ≡ false
   pub some : 0 < session.pending.reading.columns
   pub rows : session.pending.reading.awaited ≡ 0
+  pub ends : session.pending.reading.ends ≡ session.peer.ends
   pub form : session.pending.form ≡ Select
 
 module _ {L : Type 0} (of : LinkGhosts L) where
@@ -36,6 +37,7 @@ module _ {L : Type 0} (of : LinkGhosts L) where
     pub later : of.faults old.link ≤ of.faults new.link
     pub honest : of.honest old.link ↔ of.honest new.link
     pub origin : (first : L) → of.same_origin first old.link → of.same_origin first new.link
+    pub peer : new.peer ≡ old.peer
 
   -- a row came, and with its column there are more
   pub record ColumnAdded (columns : List Column) (old : SessionView L) (more : List Column) (new : SessionView L) : Type 0 where
@@ -48,7 +50,7 @@ module _ {L : Type 0} (of : LinkGhosts L) where
   pub record ColumnsEnd (columns : List Column) (old : SessionView L) (all : List Column) (new : SessionView L) : Type 0 where
     pub ready : IsReady new
     pub some : 0 < length all
-    pub reached : (asked : Asked) (start : Start) → Reached of asked (awaits_columns old.pending.reading columns) start old → Reached of asked (asks_rows all) start new
+    pub reached : (asked : Asked) (start : Start) → Reached of asked (awaits_columns old.pending.reading columns) start old → Reached of asked (asks_rows new.peer.ends all) start new
 
   -- after a row about a column, or after the last
   abbrev pub NextColumn : Bool → List Column → SessionView L → List Column → SessionView L → Type 0

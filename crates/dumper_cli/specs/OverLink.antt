@@ -27,7 +27,7 @@ module _ {L S : Type 0} (link : LinkGhosts L) (shelf : ShelfGhosts S) where
   pub record Conversed (asked : Asked) (old : SessionView L) (before : S) (new : SessionView L) (after : S) : Type 0 where
     pub columns : List Column
     pub rows : List (List Cell)
-    pub reached : (start : Start) → Reached link asked sends_names start old → Reached link asked (is_over columns rows) start new
+    pub reached : (start : Start) → Reached link asked (sends_names old.peer.ends) start old → Reached link asked (is_over columns rows) start new
     pub made : shelf.tells before → (shelf.told after).made ≡ table_files asked.schema asked.table columns rows
 
   -- these messages were sent, to the last or to the last but COM_QUIT, which may be missing only where the count rose

@@ -3,6 +3,7 @@ use Rattle.std.specs.Prelude.{ℕ, List, [], ◌∷◌, ◌++◌, map, Bool, tru
 use Rattle.wire_forms.specs.Greeting.{greeting_of}
 use Rattle.wire_forms.specs.Response.{response}
 use Rattle.wire_forms.specs.Switch.{switch_of}
+use Rattle.wire_forms.specs.declared.ends.Ends.{Ends}
 use Rattle.wire_forms.specs.declared.login_fault.LoginFault.{LoginFault}
 use Rattle.wire_forms.specs.declared.greeting.Greeting.{Greeting}
 use Rattle.wire_forms.specs.declared.switch.Switch.{Switch}
@@ -22,22 +23,22 @@ use Rattle.dumper_cli.specs.Columns.{column_of, is_row_of}
 use Rattle.dumper_cli.specs.Words.{Asked}
 use Rattle.dumper_cli.specs.declared.column.Column.{Column}
 
--- where a dump is: what it awaits or sends next, with what it knows by then: the scramble to answer, the columns, and the rows that came
+-- where a dump is: what it awaits or sends next, with what it knows by then: the scramble to answer, how result sets end, the columns, and the rows that came
 pub data Stage : Type 0 where
   awaits_greeting : Stage
-  sends_response : List ℕ → Stage
-  awaits_decision : Stage
-  sends_switch_answer : List ℕ → Stage
-  awaits_acceptance : Stage
-  sends_set_up : Stage
-  awaits_set_up : Stage
-  sends_names : Stage
-  awaits_names : Stage
-  asks_columns : Stage
-  awaits_column_count : Stage
+  sends_response : List ℕ → Ends → Stage
+  awaits_decision : Ends → Stage
+  sends_switch_answer : List ℕ → Ends → Stage
+  awaits_acceptance : Ends → Stage
+  sends_set_up : Ends → Stage
+  awaits_set_up : Ends → Stage
+  sends_names : Ends → Stage
+  awaits_names : Ends → Stage
+  asks_columns : Ends → Stage
+  awaits_column_count : Ends → Stage
   awaits_columns : Reading → List Column → Stage
-  asks_rows : List Column → Stage
-  awaits_row_count : List Column → Stage
+  asks_rows : Ends → List Column → Stage
+  awaits_row_count : Ends → List Column → Stage
   awaits_rows : Reading → List Column → List (List Cell) → Stage
   is_over : List Column → List (List Cell) → Stage
 
@@ -53,35 +54,35 @@ column_names columns = map (λ column. column.name) columns
 
 abbrev pub doing : Asked → Stage → Doing
 doing asked awaits_greeting = awaiting greeting
-doing asked (sends_response scramble) = answering (response asked.user (password_answer asked.password scramble)) awaits_decision
-doing asked awaits_decision = awaiting decision
-doing asked (sends_switch_answer scramble) = answering (switch_answer (password_answer asked.password scramble)) awaits_acceptance
-doing asked awaits_acceptance = awaiting (done Connect)
-doing asked sends_set_up = commanding (command_payload SetUp) awaits_set_up
-doing asked awaits_set_up = awaiting (done Set)
-doing asked sends_names = commanding (command_payload NamesBinary) awaits_names
-doing asked awaits_names = awaiting (done Set)
-doing asked asks_columns = commanding (query_payload (query_text (ColumnsQuery asked.schema asked.table))) awaits_column_count
-doing asked awaits_column_count = awaiting (count Select)
+doing asked (sends_response scramble ends) = answering (response asked.user (password_answer asked.password scramble) ends) (awaits_decision ends)
+doing asked (awaits_decision ends) = awaiting decision
+doing asked (sends_switch_answer scramble ends) = answering (switch_answer (password_answer asked.password scramble)) (awaits_acceptance ends)
+doing asked (awaits_acceptance ends) = awaiting (done Connect)
+doing asked (sends_set_up ends) = commanding (command_payload SetUp) (awaits_set_up ends)
+doing asked (awaits_set_up ends) = awaiting (done Set)
+doing asked (sends_names ends) = commanding (command_payload NamesBinary) (awaits_names ends)
+doing asked (awaits_names ends) = awaiting (done Set)
+doing asked (asks_columns ends) = commanding (query_payload (query_text (ColumnsQuery asked.schema asked.table))) (awaits_column_count ends)
+doing asked (awaits_column_count ends) = awaiting (count Select)
 doing asked (awaits_columns reading columns) = awaiting (further Select reading)
-doing asked (asks_rows columns) = commanding (query_payload (query_text (Rows (column_names columns) asked.schema asked.table))) (awaits_row_count columns)
-doing asked (awaits_row_count columns) = awaiting (count Select)
+doing asked (asks_rows ends columns) = commanding (query_payload (query_text (Rows (column_names columns) asked.schema asked.table))) (awaits_row_count ends columns)
+doing asked (awaits_row_count ends columns) = awaiting (count Select)
 doing asked (awaits_rows reading columns rows) = awaiting (further Select reading)
 doing asked (is_over columns rows) = nothing
 
 abbrev pub after_greeting : Result Greeting LoginFault → Option Stage
-after_greeting (Ok found) = Some (sends_response found.scramble)
+after_greeting (Ok found) = Some (sends_response found.scramble found.ends)
 after_greeting (Err fault) = None
 
-abbrev pub after_switch : Result Switch LoginFault → Option Stage
-after_switch (Ok found) = Some (sends_switch_answer found.scramble)
-after_switch (Err fault) = None
+abbrev pub after_switch : Ends → Result Switch LoginFault → Option Stage
+after_switch ends (Ok found) = Some (sends_switch_answer found.scramble ends)
+after_switch ends (Err fault) = None
 
-abbrev pub after_decision : List ℕ → Option Reply → Option Stage
-after_decision message (Some Done) = Some sends_set_up
-after_decision message (Some (Refused refusal)) = None
-after_decision message (Some (Columns columns)) = after_switch (switch_of message)
-after_decision message None = after_switch (switch_of message)
+abbrev pub after_decision : Ends → List ℕ → Option Reply → Option Stage
+after_decision ends message (Some Done) = Some (sends_set_up ends)
+after_decision ends message (Some (Refused refusal)) = None
+after_decision ends message (Some (Columns columns)) = after_switch ends (switch_of message)
+after_decision ends message None = after_switch ends (switch_of message)
 
 abbrev pub after_ok : Stage → Option Reply → Option Stage
 after_ok next (Some Done) = Some next
@@ -89,25 +90,25 @@ after_ok next (Some (Refused refusal)) = None
 after_ok next (Some (Columns columns)) = None
 after_ok next None = None
 
-abbrev pub after_count : (Reading → Stage) → Option Reply → Option Stage
-after_count next (Some Done) = None
-after_count next (Some (Refused refusal)) = None
-after_count next (Some (Columns columns)) = Some (next (columns_counted columns))
-after_count next None = None
+abbrev pub after_count : Ends → (Reading → Stage) → Option Reply → Option Stage
+after_count ends next (Some Done) = None
+after_count ends next (Some (Refused refusal)) = None
+after_count ends next (Some (Columns columns)) = Some (next (columns_counted ends columns))
+after_count ends next None = None
 
 abbrev pub with_column : (List Column → Stage) → List Column → Option Column → Option Stage
 with_column next columns (Some column) = Some (next (columns ++ column ∷ []))
 with_column next columns None = None
 
 -- a table has columns
-abbrev pub with_columns : List Column → Option Stage
-with_columns [] = None
-with_columns (column ∷ columns) = Some (asks_rows (column ∷ columns))
+abbrev pub with_columns : Ends → List Column → Option Stage
+with_columns ends [] = None
+with_columns ends (column ∷ columns) = Some (asks_rows ends (column ∷ columns))
 
 abbrev pub after_columns : Reading → List Column → Further → Option Stage
 after_columns reading columns definition = Some (awaits_columns (reading_after reading definition) columns)
 after_columns reading columns (row cells) = with_column (awaits_columns reading) columns (column_of cells)
-after_columns reading columns end = with_columns columns
+after_columns reading columns end = with_columns reading.ends columns
 after_columns reading columns (refused refusal) = None
 after_columns reading columns garbled = None
 
@@ -125,18 +126,18 @@ after_rows reading columns rows garbled = None
 -- where the dump is after a message that a session goes on at; None where the dump doesn't: a column that can't be dumped, a table without columns, a row of other cells
 abbrev pub stage_after : Stage → List ℕ → Option Stage
 stage_after awaits_greeting message = after_greeting (greeting_of message)
-stage_after (sends_response scramble) message = None
-stage_after awaits_decision message = after_decision message (reply_of message)
-stage_after (sends_switch_answer scramble) message = None
-stage_after awaits_acceptance message = after_ok sends_set_up (reply_of message)
-stage_after sends_set_up message = None
-stage_after awaits_set_up message = after_ok sends_names (reply_of message)
-stage_after sends_names message = None
-stage_after awaits_names message = after_ok asks_columns (reply_of message)
-stage_after asks_columns message = None
-stage_after awaits_column_count message = after_count (λ reading. awaits_columns reading []) (reply_of message)
+stage_after (sends_response scramble ends) message = None
+stage_after (awaits_decision ends) message = after_decision ends message (reply_of message)
+stage_after (sends_switch_answer scramble ends) message = None
+stage_after (awaits_acceptance ends) message = after_ok (sends_set_up ends) (reply_of message)
+stage_after (sends_set_up ends) message = None
+stage_after (awaits_set_up ends) message = after_ok (sends_names ends) (reply_of message)
+stage_after (sends_names ends) message = None
+stage_after (awaits_names ends) message = after_ok (asks_columns ends) (reply_of message)
+stage_after (asks_columns ends) message = None
+stage_after (awaits_column_count ends) message = after_count ends (λ reading. awaits_columns reading []) (reply_of message)
 stage_after (awaits_columns reading columns) message = after_columns reading columns (further_of reading message)
-stage_after (asks_rows columns) message = None
-stage_after (awaits_row_count columns) message = after_count (λ reading. awaits_rows reading columns []) (reply_of message)
+stage_after (asks_rows ends columns) message = None
+stage_after (awaits_row_count ends columns) message = after_count ends (λ reading. awaits_rows reading columns []) (reply_of message)
 stage_after (awaits_rows reading columns rows) message = after_rows reading columns rows (further_of reading message)
 stage_after (is_over columns rows) message = None

@@ -1,4 +1,4 @@
-// Columns.
+//! Columns.
 ghost use Rattle.std.specs.Prelude.{◌≡◌, true, false, IfOk, MatchOption, bytes_eq, option_copied};
 ghost use Rattle.std.specs.List.{list_any};
 ghost use Rattle.result_rows.specs.RowCells.{row_cells};

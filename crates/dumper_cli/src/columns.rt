@@ -1,4 +1,4 @@
-// The columns of the table, read from the rows that tell them.
+//! The columns of the table, read from the rows that tell them.
 ghost use Rattle.std.specs.Prelude.{◌<◌, [], length, IfErr, IfOk, OnOk};
 ghost use Rattle.result_rows.specs.RowCells.{row_cells};
 ghost use Rattle.dumper_cli.specs.AskedBy.{asked_by};
@@ -21,8 +21,8 @@ fn ask_columns<L: Link>(session: &mut Session<L>, words: &Words<'_>) -> Result<(
 
     ensures keeps { Keeps L.Link session.old session.new }
     ensures rows { OnOk result (HasRows session.new) }
-    ensures ok { OnOk result ((start : _) → Reached L.Link (asked_by words.now) asks_columns start session.old → Reached L.Link (asked_by words.now) (awaits_columns session.new.pending.reading []) start session.new) }
-    ensures err { IfErr result (λ fault. (start : _) → Reached L.Link (asked_by words.now) asks_columns start session.old → Halted L.Link (asked_by words.now) start session.new.link fault) }
+    ensures ok { OnOk result ((start : _) → Reached L.Link (asked_by words.now) (asks_columns session.old.peer.ends) start session.old → Reached L.Link (asked_by words.now) (awaits_columns session.new.pending.reading []) start session.new) }
+    ensures err { IfErr result (λ fault. (start : _) → Reached L.Link (asked_by words.now) (asks_columns session.old.peer.ends) start session.old → Halted L.Link (asked_by words.now) start session.new.link fault) }
 {
     let schema = Part::of(words.schema.as_slice());
     let table = Part::of(words.table.as_slice());
@@ -90,8 +90,8 @@ pub fn read_columns<L: Link>(
     ensures keeps { Keeps L.Link session.old session.new }
     ensures ready { IfOk result (λ _. IsReady session.new) }
     ensures some { IfOk result (λ columns. 0 < length columns) }
-    ensures ok { IfOk result (λ columns. (start : _) → Reached L.Link (asked_by words.now) asks_columns start session.old → Reached L.Link (asked_by words.now) (asks_rows columns) start session.new) }
-    ensures err { IfErr result (λ fault. (start : _) → Reached L.Link (asked_by words.now) asks_columns start session.old → Halted L.Link (asked_by words.now) start session.new.link fault) }
+    ensures ok { IfOk result (λ columns. (start : _) → Reached L.Link (asked_by words.now) (asks_columns session.old.peer.ends) start session.old → Reached L.Link (asked_by words.now) (asks_rows session.new.peer.ends columns) start session.new) }
+    ensures err { IfErr result (λ fault. (start : _) → Reached L.Link (asked_by words.now) (asks_columns session.old.peer.ends) start session.old → Halted L.Link (asked_by words.now) start session.new.link fault) }
 {
     if let Err(fault) = ask_columns(session, words) {
         return Err(fault);

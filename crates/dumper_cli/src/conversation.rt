@@ -1,4 +1,4 @@
-// A dump over one link.
+//! A dump over one link.
 ghost use Rattle.std.specs.Prelude.{◌≡◌, ◌<◌, ◌≤◌, ◌↔◌, [], length, false, IfErr, IfOk, OnOk, OnErr};
 ghost use Rattle.my_session.specs.InStep.{GreetingWaits};
 ghost use Rattle.dumper_cli.specs.AskedBy.{asked_by};
@@ -25,8 +25,8 @@ fn set_names<L: Link>(session: &mut Session<L>) -> Result<(), SessionFault>
 
     ensures keeps { Keeps L.Link session.old session.new }
     ensures ready { OnOk result (IsReady session.new) }
-    ensures ok { OnOk result ((asked start : _) → Reached L.Link asked sends_names start session.old → Reached L.Link asked asks_columns start session.new) }
-    ensures err { IfErr result (λ fault. (asked start : _) → Reached L.Link asked sends_names start session.old → Halted L.Link asked start session.new.link fault) }
+    ensures ok { OnOk result ((asked start : _) → Reached L.Link asked (sends_names session.old.peer.ends) start session.old → Reached L.Link asked (asks_columns session.new.peer.ends) start session.new) }
+    ensures err { IfErr result (λ fault. (asked start : _) → Reached L.Link asked (sends_names session.old.peer.ends) start session.old → Halted L.Link asked start session.new.link fault) }
 {
     session.run(&Command::NamesBinary)
 }
@@ -41,8 +41,8 @@ fn ask<L: Link>(
 
     ensures keeps { Keeps L.Link session.old session.new }
     ensures rows { IfOk result (λ _. HasRows session.new) }
-    ensures ok { IfOk result (λ columns. (start : _) → Reached L.Link (asked_by words.now) sends_names start session.old → Reached L.Link (asked_by words.now) (awaits_rows session.new.pending.reading columns []) start session.new) }
-    ensures err { IfErr result (λ fault. (start : _) → Reached L.Link (asked_by words.now) sends_names start session.old → Halted L.Link (asked_by words.now) start session.new.link fault) }
+    ensures ok { IfOk result (λ columns. (start : _) → Reached L.Link (asked_by words.now) (sends_names session.old.peer.ends) start session.old → Reached L.Link (asked_by words.now) (awaits_rows session.new.pending.reading columns []) start session.new) }
+    ensures err { IfErr result (λ fault. (start : _) → Reached L.Link (asked_by words.now) (sends_names session.old.peer.ends) start session.old → Halted L.Link (asked_by words.now) start session.new.link fault) }
 {
     if let Err(fault) = set_names(session) {
         return Err(fault);
@@ -110,7 +110,7 @@ fn converse<L: Link, S: Shelf>(
     ensures later { S.faults shelf ≤ S.faults result.0 }
     ensures ready { OnOk result.1 (IsReady session.new) }
     ensures ok { OnOk result.1 (Conversed L.Link S.Shelf (asked_by words.now) session.old shelf session.new result.0) }
-    ensures err { IfErr result.1 (λ fault. (start : _) → Reached L.Link (asked_by words.now) sends_names start session.old → Broke L.Link S.Shelf (asked_by words.now) start shelf session.new.link result.0 fault) }
+    ensures err { IfErr result.1 (λ fault. (start : _) → Reached L.Link (asked_by words.now) (sends_names session.old.peer.ends) start session.old → Broke L.Link S.Shelf (asked_by words.now) start shelf session.new.link result.0 fault) }
     ensures none_made { OnErr result.1 (S.tells shelf → (S.told result.0).made ≡ []) }
 {
     let columns = match ask(session, alloc, words) {

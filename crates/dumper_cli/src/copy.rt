@@ -1,4 +1,4 @@
-// The rows of the table, asked for and written to the file one by one.
+//! The rows of the table, asked for and written to the file one by one.
 ghost use Rattle.std.specs.Prelude.{◌<◌, [], IfErr, IfOk, OnOk, length};
 ghost use Rattle.result_rows.specs.RowCells.{row_cells};
 ghost use Rattle.dumper_cli.specs.AskedBy.{asked_by};
@@ -31,8 +31,8 @@ pub fn ask_rows<L: Link>(
 
     ensures keeps { Keeps L.Link session.old session.new }
     ensures rows { OnOk result (HasRows session.new) }
-    ensures ok { OnOk result ((start : _) → Reached L.Link (asked_by words.now) (asks_rows columns.now) start session.old → Reached L.Link (asked_by words.now) (awaits_rows session.new.pending.reading columns.now []) start session.new) }
-    ensures err { IfErr result (λ fault. (start : _) → Reached L.Link (asked_by words.now) (asks_rows columns.now) start session.old → Halted L.Link (asked_by words.now) start session.new.link fault) }
+    ensures ok { OnOk result ((start : _) → Reached L.Link (asked_by words.now) (asks_rows session.old.peer.ends columns.now) start session.old → Reached L.Link (asked_by words.now) (awaits_rows session.new.pending.reading columns.now []) start session.new) }
+    ensures err { IfErr result (λ fault. (start : _) → Reached L.Link (asked_by words.now) (asks_rows session.old.peer.ends columns.now) start session.old → Halted L.Link (asked_by words.now) start session.new.link fault) }
 {
     let Ok(columns) = names_of(alloc, columns) else {
         return Err(SessionFault::OutOfMemory);

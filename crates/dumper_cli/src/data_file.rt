@@ -1,4 +1,4 @@
-// The data file of a table.
+//! The data file of a table.
 ghost use Rattle.std.specs.Prelude.{◌≡◌, ◌<◌, ◌≤◌, ◌↔◌, ◌∷◌, ◌++◌, [], ℕ, List, true, false, length, IfOk, IfErr, OnOk, OnErr};
 ghost use Rattle.link_traits.specs.Cause.{Rose, HasCause};
 ghost use Rattle.link_traits.specs.Folder.{told_after_append, files_after_finish};

@@ -1,4 +1,4 @@
-// The dump of a table of a site into a folder.
+//! The dump of a table of a site into a folder.
 ghost use Rattle.std.specs.Prelude.{◌≡◌, ◌<◌, ◌≤◌, ◌+◌, ◌^◌, ◌-◌, ◌↔◌, [], length, false, Some, IfErr, IfOk, OnOk, OnErr, MatchOption, min};
 ghost use Rattle.link_traits.specs.Cause.{Rose};
 ghost use Rattle.dumper_cli.specs.AskedBy.{asked_by};
@@ -24,11 +24,11 @@ fn dump_over_site<T: Site, S: Shelf>(
     shelf: S,
     words: &Words<'_>,
 ) -> (S, Result<(), DumpFault>)
-    requires none_out { T.out site.old ≡ 0 }
+    requires none_out { (T.links site.old).out ≡ 0 }
     requires none_begun { S.is_begun shelf ≡ false }
     requires none_made { S.tells shelf → (S.told shelf).made ≡ [] }
 
-    ensures none_out { T.out site.new ≡ 0 }
+    ensures none_out { (T.links site.new).out ≡ 0 }
     ensures site_tells { T.tells site.old ↔ T.tells site.new }
     ensures site_later { T.faults site.old ≤ T.faults site.new }
     ensures aim { T.aim_of site.new ≡ T.aim_of site.old }
@@ -85,10 +85,10 @@ fn dump_into_empty<T: Site, F: Folder>(
     site: &mut T,
     folder: &mut F,
 ) -> Result<(), DumpFault>
-    requires none_out { T.out site.old ≡ 0 }
+    requires none_out { (T.links site.old).out ≡ 0 }
     requires empty { F.tells folder.old → F.contents folder.old ≡ [] }
 
-    ensures none_out { T.out site.new ≡ 0 }
+    ensures none_out { (T.links site.new).out ≡ 0 }
     ensures site_later { T.faults site.old ≤ T.faults site.new }
     ensures aim { T.aim_of site.new ≡ T.aim_of site.old }
     ensures out { F.out folder.new ≡ F.out folder.old }
@@ -116,9 +116,9 @@ pub fn dump<T: Site, F: Folder>(
     site: &mut T,
     folder: &mut F,
 ) -> Result<(), DumpFault>
-    requires none_out { T.out site.old ≡ 0 }
+    requires none_out { (T.links site.old).out ≡ 0 }
 
-    ensures none_out { T.out site.new ≡ 0 }
+    ensures none_out { (T.links site.new).out ≡ 0 }
     ensures site_later { T.faults site.old ≤ T.faults site.new }
     ensures out { F.out folder.new ≡ F.out folder.old }
     ensures later { F.faults folder.old ≤ F.faults folder.new }

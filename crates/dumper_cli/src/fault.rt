@@ -1,4 +1,4 @@
-// Why a dump ended.
+//! Why a dump ended.
 use my_session::SessionFault;
 use plain_data::Name;
 

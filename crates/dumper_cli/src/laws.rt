@@ -1,4 +1,4 @@
-// Laws of dumps.
+//! Laws of dumps.
 ghost use Rattle.dumper_cli.specs.Course.{AConversationHasOneOutcome, AllIsSaid};
 
 /// A law: whatever bytes a server sends in a dump, of all columns and rows and the ends that the

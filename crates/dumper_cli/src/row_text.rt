@@ -1,4 +1,4 @@
-// The text of names, rows and statements.
+//! The text of names, rows and statements.
 ghost use Rattle.std.specs.Prelude.{◌≡◌, ◌↔◌, ◌≤◌, ◌+◌, ◌∷◌, [], ◌++◌, length, codes, false, true, IfOk, OnOk, OnErr, IsErrOf, option_copied};
 ghost use Rattle.result_rows.specs.RowCells.{row_cells};
 ghost use Rattle.sql_cells.specs.Literal.{literal, has_literal};

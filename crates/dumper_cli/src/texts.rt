@@ -1,4 +1,4 @@
-// The queries of a dump.
+//! The queries of a dump.
 ghost use Rattle.std.specs.Prelude.{◌≡◌, IfOk};
 ghost use Rattle.dumper_cli.specs.Stage.{column_names};
 

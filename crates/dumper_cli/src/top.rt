@@ -1,4 +1,4 @@
-// The top call.
+//! The top call.
 ghost use Rattle.std.specs.Prelude.{◌≡◌, ◌≤◌, ◌↔◌, Some, None};
 ghost use Rattle.link_traits.specs.Cause.{Rose};
 ghost use Rattle.dumper_cli.specs.Outside.{Dumped, AimsAt, SaidAtMost};
@@ -59,10 +59,10 @@ pub fn mydumper<R: Threads + Sync, S: Site, F: Folder, O: Sink, C: Clock>(
     _err: &mut O,
     _clock: &mut C,
 ) -> u8
-    requires no_link_out { S.out site.old ≡ 0 }
+    requires no_link_out { (S.links site.old).out ≡ 0 }
     requires no_shelf_out { F.out folder.old ≡ 0 }
 
-    ensures no_link_out { S.out site.new ≡ 0 }
+    ensures no_link_out { (S.links site.new).out ≡ 0 }
     ensures no_shelf_out { F.out folder.new ≡ 0 }
     ensures err { _err.new ≡ _err.old }
     ensures clock { _clock.new ≡ _clock.old }

@@ -1,4 +1,4 @@
-// The words of a command line.
+//! The words of a command line.
 ghost use Rattle.std.specs.Prelude.{◌≡◌, Some, None, MatchOption};
 ghost use Rattle.std.specs.List.{list_all};
 ghost use Rattle.dumper_cli.specs.AskedBy.{asked_by};

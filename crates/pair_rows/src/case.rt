@@ -1,4 +1,4 @@
-// What a run meets.
+//! What a run meets.
 
 /// What a run meets, as it stands in the file of cases.
 #[derive(Clone, Copy)]
@@ -9,6 +9,8 @@ pub struct Case<'a> {
     pub greeting: &'a str,
     /// The sequence id of the server's first answer to the login, and its answers.
     pub login: &'a str,
+    /// How result sets end: `ok`, or else by EOF packets.
+    pub ends: &'a str,
     /// The rows that tell the columns.
     pub columns: &'a str,
     /// How many columns the rows have, and the rows with what ends them.
@@ -39,6 +41,7 @@ impl<'a> Cases<'a> {
             words: "",
             greeting: "",
             login: "",
+            ends: "",
             columns: "",
             rows: "",
             cuts: "",
@@ -79,6 +82,7 @@ pub fn changed<'a>(case: Case<'a>, line: &'a str) -> Option<Case<'a>> {
         "words" => case.words = value,
         "greeting" => case.greeting = value,
         "login" => case.login = value,
+        "ends" => case.ends = value,
         "columns" => case.columns = value,
         "rows" => case.rows = value,
         "cuts" => case.cuts = value,

@@ -1,4 +1,4 @@
-// Why a case has no answer.
+//! Why a case has no answer.
 use plain_data::OutOfMemory;
 use std::alloc::AllocError;
 use thiserror::Error;

@@ -1,4 +1,4 @@
-// A run, and what is asked of it.
+//! A run, and what is asked of it.
 ghost use Rattle.std.specs.Prelude.{◌≡◌};
 
 use crate::case::{Case, changed};
@@ -27,7 +27,7 @@ fn status_of<R: Threads + Sync>(
     site: &mut ReplySite,
     folder: &mut MemoryFolder,
 ) -> u8
-    requires no_link_out { site.old.out ≡ 0 }
+    requires no_link_out { site.old.links.out ≡ 0 }
     requires no_shelf_out { folder.old.out ≡ 0 }
 {
     let mut err = MemorySink::new(alloc, NumberList::new(alloc));

@@ -1,4 +1,4 @@
-// The site and the folder of a case.
+//! The site and the folder of a case.
 ghost use Rattle.std.specs.Prelude.{◌≡◌, IfOk};
 
 use crate::case::Case;
@@ -12,6 +12,9 @@ use std::alloc::Global;
 const OK: &str = "%00%00%00%02%00%00%00";
 
 const EOF: &str = "%fe%00%00%02%00";
+
+// An OK that ends a result set.
+const ENDING_OK: &str = "%fe%00%00%02%00%00%00";
 
 const DEFINITION: &str = "%03def%01s%01t%01t%02id%02id%0c%3f%00%0b%00%00%00%03%03%00%00%00%00";
 
@@ -46,11 +49,14 @@ fn say_login(alloc: Global, talk: &mut Conversation, words: &str) -> Result<(), 
     Ok(())
 }
 
-// Appends what a result set of so many columns begins with.
-fn head_into(alloc: Global, columns: u8, out: &mut Vec<u8>) -> Result<u8, CaseFault> {
+// Appends what a result set of so many columns begins with, which ends so.
+fn head_into(alloc: Global, columns: u8, ends: &str, out: &mut Vec<u8>) -> Result<u8, CaseFault> {
     let mut id = frame_into(&[columns], 1, out)?;
     for _ in 0..columns {
         id = message_into(alloc, DEFINITION, id, out)?;
+    }
+    if ends == "ok" {
+        return Ok(id);
     }
     message_into(alloc, EOF, id, out)
 }
@@ -70,22 +76,33 @@ fn messages_into(
 }
 
 // Adds the reply that tells the columns.
-fn say_columns(alloc: Global, talk: &mut Conversation, words: &str) -> Result<(), CaseFault> {
+fn say_columns(
+    alloc: Global,
+    talk: &mut Conversation,
+    words: &str,
+    ends: &str,
+) -> Result<(), CaseFault> {
     let mut out = Vec::new(alloc);
-    let id = head_into(alloc, 4, &mut out)?;
+    let id = head_into(alloc, 4, ends, &mut out)?;
     let id = messages_into(alloc, words, id, &mut out)?;
-    message_into(alloc, EOF, id, &mut out)?;
+    let last = if ends == "ok" { ENDING_OK } else { EOF };
+    message_into(alloc, last, id, &mut out)?;
     talk.push(Bytes::of(alloc, &out)?)?;
     Ok(())
 }
 
 // Adds the reply of rows.
-fn say_rows(alloc: Global, talk: &mut Conversation, words: &str) -> Result<(), CaseFault> {
+fn say_rows(
+    alloc: Global,
+    talk: &mut Conversation,
+    words: &str,
+    ends: &str,
+) -> Result<(), CaseFault> {
     let Some((columns, rows)) = words.split_once(' ') else {
         return Err(CaseFault::Unread);
     };
     let mut out = Vec::new(alloc);
-    let id = head_into(alloc, byte(columns), &mut out)?;
+    let id = head_into(alloc, byte(columns), ends, &mut out)?;
     messages_into(alloc, rows, id, &mut out)?;
     talk.push(Bytes::of(alloc, &out)?)?;
     Ok(())
@@ -98,8 +115,8 @@ fn conversation(alloc: Global, case: &Case<'_>) -> Result<Conversation, CaseFaul
     say_login(alloc, &mut talk, case.login)?;
     say(alloc, &mut talk, 1, OK)?;
     say(alloc, &mut talk, 1, OK)?;
-    say_columns(alloc, &mut talk, case.columns)?;
-    say_rows(alloc, &mut talk, case.rows)?;
+    say_columns(alloc, &mut talk, case.columns, case.ends)?;
+    say_rows(alloc, &mut talk, case.rows, case.ends)?;
     Ok(talk)
 }
 
@@ -122,7 +139,7 @@ fn faults_of(alloc: Global, words: &str) -> Result<NumberList, CaseFault> {
 
 /// A site with the case's conversation alone.
 pub fn site_of(alloc: Global, case: &Case<'_>, cut: u32) -> Result<ReplySite, CaseFault>
-    ensures { IfOk result (λ site. site.out ≡ 0) }
+    ensures { IfOk result (λ site. site.links.out ≡ 0) }
 {
     let mut talks = ConversationList::new(alloc);
     talks.push(conversation(alloc, case)?)?;

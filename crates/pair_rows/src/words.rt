@@ -1,4 +1,4 @@
-// Bytes and numbers as they are written in cases.
+//! Bytes and numbers as they are written in cases.
 use crate::fault::CaseFault;
 use percent_encoding::{CONTROLS, percent_decode, percent_encode};
 use std::alloc::Global;

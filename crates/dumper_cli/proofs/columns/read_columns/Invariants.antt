@@ -9,7 +9,7 @@ abbrev pub invariant-columns : goal.invariant-columns
 invariant-columns g l = record {
   has_rows : HasRows l.session;
   keeps : Keeps g.L.Link l.fn.session l.session;
-  reached : (start : Start) → Reached g.L.Link (asked_by l.words) asks_columns start l.fn.session → Reached g.L.Link (asked_by l.words) (awaits_columns l.session.pending.reading l.columns) start l.session;
+  reached : (start : Start) → Reached g.L.Link (asked_by l.words) (asks_columns l.fn.session.peer.ends) start l.fn.session → Reached g.L.Link (asked_by l.words) (awaits_columns l.session.pending.reading l.columns) start l.session;
 }
 
 abbrev pub decreases-columns : goal.decreases-columns

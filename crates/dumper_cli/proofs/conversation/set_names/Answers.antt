@@ -4,13 +4,13 @@ use Rattle.statement_forms.specs.declared.command.Command.TheVariants.{NamesBina
 use Rattle.dumper_cli.proofs.conversation.set_names.Goals as goal
 
 pub returns-clause-keeps : goal.returns-clause-keeps
-returns-clause-keeps g c = Keeps-by g.L.Link g.met.L.Link.origins_join c.args.session.now c.run.new.self c.run.ensures.tells c.run.ensures.counted.later c.run.ensures.honest c.run.ensures.origin
+returns-clause-keeps g c = Keeps-by g.L.Link g.met.L.Link.origins_join c.args.session.now c.run.new.self c.run.ensures.tells c.run.ensures.counted.later c.run.ensures.honest c.run.ensures.origin c.run.ensures.peer
 
 pub run-requires-clause-no_create : goal.run-requires-clause-no_create
 run-requires-clause-no_create g c = λ h sole. makes_nothing NamesBinary _ (λ is. absurd (cc))
 
 pub returns-clause-ok : goal.returns-clause-ok
-returns-clause-ok g c = names_ok g.L.Link c.args.session.now c.run.new.self c.run.result (Keeps-by g.L.Link g.met.L.Link.origins_join c.args.session.now c.run.new.self c.run.ensures.tells c.run.ensures.counted.later c.run.ensures.honest c.run.ensures.origin) c.run.ensures.runs
+returns-clause-ok g c = names_ok g.L.Link c.args.session.now c.run.new.self c.run.result (Keeps-by g.L.Link g.met.L.Link.origins_join c.args.session.now c.run.new.self c.run.ensures.tells c.run.ensures.counted.later c.run.ensures.honest c.run.ensures.origin c.run.ensures.peer) c.run.ensures.runs
 
 pub returns-clause-err : goal.returns-clause-err
 returns-clause-err g c = names_err g.L.Link c.args.session.now c.run.new.self c.run.result c.run.ensures.tells c.run.ensures.counted c.run.ensures.runs
