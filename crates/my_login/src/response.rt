@@ -45,9 +45,11 @@ pub fn response_into(
     ends: Ends,
     out: &mut Vec<u8>,
 ) -> Result<(), OutOfMemory>
-    ensures ok { OnOk result (out.new.items ≡ out.old.items ++ response user.now (option_copied answer.entry) ends) }
+    ensures ok { OnOk result (out.new.items ≡
+        out.old.items ++ response user.now (option_copied answer.entry) ends) }
     ensures err { OnErr result (out.new.items ≡ out.old.items) }
-    ensures room { vec_len out.old + length (response user.now (option_copied answer.entry) ends) ≤ vec_capacity out.old → IsOk result }
+    ensures room { vec_len out.old + length (response user.now (option_copied answer.entry) ends) ≤
+        vec_capacity out.old → IsOk result }
 {
     let capabilities = asked_capabilities(ends);
     let answer = answer_bytes(answer);

@@ -5,7 +5,7 @@ use Rattle.std.proofs.lemmas.List.{take_all}
 use Rattle.my_packets.proofs.Packets.{packets_length}
 use Rattle.my_packets.specs.Begins.{IsSplit, IsWrong}
 use Rattle.my_packets.specs.Front.{HasMessage, Wants, IsPart}
-use Rattle.my_packets.specs.Joins.{Joins}
+use Rattle.my_packets.specs.Joins.{JoinsAt}
 use Rattle.wire_forms.specs.Packet.{packets, packet_count}
 use Rattle.my_packets.specs.Steps.{Passes, HandsOut}
 use Rattle.my_packets.specs.Unread.{Unread}
@@ -40,7 +40,7 @@ pub record Stood (limit id from size : ℕ) (store new : List ℕ) : Type 0 wher
   pub size_is : length (slice_range new (from + 4) (from + 4 + size)) ≡ size
   pub message_is : HasMessage limit id (slice_range new (from + 4) (from + 4 + size)) (drop from store) (drop (from + (size + 4 * packet_count size)) new)
 
-pub stands : (limit id from size : ℕ) (store new : List ℕ) → IsSplit limit id size (drop from store) → ((other : ℕ) (message after : List ℕ) → drop from store ≡ packets other message ++ after → size ≡ length message → Joins from message after new) → Stood limit id from size store new
+pub stands : (limit id from size : ℕ) (store new : List ℕ) → IsSplit limit id size (drop from store) → JoinsAt from size store new → Stood limit id from size store new
 stands limit id from size store new split joined =
     let message = split.message in
     let after = split.after in

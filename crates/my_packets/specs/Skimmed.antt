@@ -2,6 +2,7 @@
 use Rattle.std.specs.Prelude.{ℕ, List}
 use Rattle.my_packets.specs.declared.skim.Stage.{Stage}
 
+-- what a skim knows of the message that it reads
 pub record Skimmed : Type 0 where
   -- the first 1,024 payload bytes, or all where there were fewer
   pub kept : List ℕ

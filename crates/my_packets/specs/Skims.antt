@@ -66,16 +66,18 @@ wanted_at (Packet size left) header = left
 wanted_at Whole header = 0
 wanted_at (Wrong fault) header = 0
 
+-- how many bytes a skim wants
 abbrev pub wanted : Skimmed → ℕ
 wanted skim = wanted_at skim.stage skim.header
 
--- the fault that a skim stands at
+-- the fault of a stage, where a packet was wrong
 abbrev pub fault_at : Stage → Option FrameFault
 fault_at Header = None
 fault_at (Packet size left) = None
 fault_at Whole = None
 fault_at (Wrong fault) = Some fault
 
+-- the fault that a skim answers from now on, where a packet was wrong
 abbrev pub fault_of : Skimmed → Option FrameFault
 fault_of skim = fault_at skim.stage
 

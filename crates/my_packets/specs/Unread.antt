@@ -1,6 +1,7 @@
 -- What a reader of a stream holds.
 use Rattle.std.specs.Prelude.{ℕ, List}
 
+-- the payload that was read last of a stream, and the bytes after it that are unread
 pub record Unread : Type 0 where
   -- the payload that was read last, and its place: the number of stream bytes before its first packet
   pub message : List ℕ

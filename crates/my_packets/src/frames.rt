@@ -1,11 +1,11 @@
 //! Bytes that came in pieces, and the messages that they hold.
-ghost use Rattle.std.specs.Prelude.{ℕ, List, ◌≡◌, ◌+◌, ◌-◌, ◌*◌, ◌<◌, ◌≤◌, ◌^◌, ◌++◌, [], length, drop, vec_len, IfOk, OnOk, OnErr};
+ghost use Rattle.std.specs.Prelude.{ℕ, List, ◌≡◌, ◌+◌, ◌-◌, ◌*◌, ◌<◌, ◌≤◌, ◌^◌, ◌++◌, [], length, drop, vec_len, vec_capacity, IfOk, OnOk, OnErr};
 ghost use Rattle.std.specs.Borrow.{sem};
 ghost use Rattle.std.specs.Io.BufRead.{Rests};
 ghost use Rattle.my_packets.specs.Begins.{Begins, BeginsPacket};
 ghost use Rattle.my_packets.specs.Front.{Wants};
-ghost use Rattle.my_packets.specs.Joins.{Joins, IsClosed};
-ghost use Rattle.wire_forms.specs.Packet.{packet_count, packets};
+ghost use Rattle.my_packets.specs.Joins.{JoinsAt, ClosesAt};
+ghost use Rattle.wire_forms.specs.Packet.{packet_count};
 ghost use Rattle.my_packets.specs.Steps.{Steps, Shows, HandsOut};
 
 use crate::frame::FULL_SIZE;
@@ -16,6 +16,9 @@ use thiserror::Error;
 
 // Bytes that were handed out are given up once there are so many of them, and as many as are unread.
 const KEPT: usize = 65536;
+
+// [`Frames::shrink`] leaves room for at most so many bytes where none is unread: 1 MiB.
+const ROOM_KEPT: usize = 1_048_576;
 
 /// Why the bytes of a stream hold no further message.
 #[derive(Clone, Copy, Debug, PartialEq, Eq, Error)]
@@ -166,13 +169,33 @@ fn give_up_front(store: &mut Vec<u8>, count: usize)
     store.truncate(left);
 }
 
+// Lets go of the store where what is after `from` is nothing and there is more room than is kept, and
+// answers where what is after `from` begins then.
+fn shrink_store(store: &mut Vec<u8>, from: usize) -> usize
+    requires in_store { from ≤ vec_len store.old }
+
+    ensures place { result ≤ vec_len store.new }
+    ensures bytes { drop result store.new.items ≡ drop from store.old.items }
+    ensures size { vec_len store.new - result ≡ vec_len store.old - from }
+    ensures room { from ≡ vec_len store.old → vec_capacity store.new ≤ ROOM_KEPT }
+{
+    if from < store.len() {
+        return from;
+    }
+    store.clear();
+    if ROOM_KEPT < store.capacity() {
+        store.shrink_to_fit();
+    }
+    0
+}
+
 // Closes the gaps that the headers of a message's further packets leave in it.
 #[inline]
 fn join(store: &mut Vec<u8>, from: usize, size: usize)
     requires in_store { from + size + 4 * packet_count size ≤ vec_len store.old }
 
     ensures length { vec_len store.new ≡ vec_len store.old }
-    ensures joined { (id : ℕ) (message after : List ℕ) → drop from store.old.items ≡ packets id message ++ after → size ≡ length message → Joins from message after store.new.items }
+    ensures joined { JoinsAt from size store.old.items store.new.items }
 {
     if FULL_SIZE <= size {
         close_gaps(store, from + 4 + FULL_SIZE, size - FULL_SIZE);
@@ -186,7 +209,7 @@ fn close_gaps(store: &mut Vec<u8>, end: usize, size: usize)
     requires in_store { end + size + 4 * packet_count size ≤ vec_len store.old }
 
     ensures length { vec_len store.new ≡ vec_len store.old }
-    ensures joined { (id : ℕ) (message after : List ℕ) → drop end store.old.items ≡ packets id message ++ after → size ≡ length message → IsClosed end message after store.old.items store.new.items }
+    ensures joined { ClosesAt end size store.old.items store.new.items }
 {
     let mut to = end;
     let mut packet = end;
@@ -206,7 +229,8 @@ impl Frames {
     /// A stream of which nothing was fed, whose first packet has sequence id 0. A message may have at
     /// most `limit` bytes, in all of its packets. Takes no memory.
     pub fn new(alloc: Global, limit: u32) -> Frames
-        ensures { result ≡ record { message = []; began = 0; bytes = []; place = 0; id = 0; limit = limit } }
+        ensures { result ≡
+            record { message = []; began = 0; bytes = []; place = 0; id = 0; limit = limit } }
     {
         Frames {
             store: Vec::new(alloc),
@@ -233,7 +257,8 @@ impl Frames {
     pub fn feed(&mut self, piece: &[u8]) -> Result<(), OutOfMemory>
         requires in_all { self.old.place + length self.old.bytes + length piece.now ≤ 2 ^ 62 }
 
-        ensures ok { OnOk result (self.new ≡ record self.old { message = []; bytes = self.old.bytes ++ piece.now }) }
+        ensures ok { OnOk result
+            (self.new ≡ record self.old { message = []; bytes = self.old.bytes ++ piece.now }) }
         ensures err { OnErr result (self.new ≡ record self.old { message = [] }) }
     {
         let unread = self.store.len() - self.from;
@@ -245,6 +270,18 @@ impl Frames {
         self.end = self.from;
         self.store.extend_from_slice(piece)?;
         Ok(())
+    }
+
+    /// Lets go of the memory for received bytes where none of them is unread and there is room for more
+    /// than 1 MiB (1,048,576 bytes). The payload read last is forgotten, whether or not memory was let
+    /// go; its place and all else stay. Takes no memory. (What is seen of a `Frames` doesn't tell its
+    /// room, so no clause here speaks of it.)
+    pub fn shrink(&mut self)
+        ensures { self.new ≡ record self.old { message = [] } }
+    {
+        self.from = shrink_store(&mut self.store, self.from);
+        self.start = self.from;
+        self.end = self.from;
     }
 
     /// How many bytes are missing of the packet header or the packet that is being read; 0 exactly

@@ -78,7 +78,8 @@ impl Skim {
     /// where the message is whole or a packet is wrong.
     pub fn wants(&self) -> u32
         ensures value { result ≡ wanted self.now }
-        ensures wants { (seq limit : ℕ) (fed : List ℕ) → Skims seq limit fed self.now → Wants limit seq fed result }
+        ensures wants { (seq limit : ℕ) (fed : List ℕ) → Skims seq limit fed self.now →
+            Wants limit seq fed result }
     {
         match self.stage {
             Stage::Header => 4 - self.header_size as u32,
@@ -163,7 +164,8 @@ impl Skim {
     /// The first 1,024 bytes of the message, or all where there are fewer.
     pub fn kept(&self) -> &[u8]
         ensures value { result.now ≡ self.now.kept }
-        ensures message { (seq limit : ℕ) (fed message : List ℕ) → Skims seq limit fed self.now → fed ≡ packets seq message → result.now ≡ take 1024 message }
+        ensures message { (seq limit : ℕ) (fed message : List ℕ) → Skims seq limit fed self.now →
+            fed ≡ packets seq message → result.now ≡ take 1024 message }
     {
         &self.kept[..self.kept_size]
     }
@@ -175,7 +177,8 @@ impl Skim {
 fn fill(place: &mut [u8], size: usize, piece: &[u8]) -> usize
     requires { size ≤ length place.old }
 
-    ensures filled { take result place.new ≡ take (length place.old) (take size place.old ++ piece.now) }
+    ensures filled { take result place.new ≡
+        take (length place.old) (take size place.old ++ piece.now) }
     ensures size { result ≡ min (length place.old) (size + length piece.now) }
 {
     let count = piece.len().min(place.len() - size);

@@ -119,8 +119,10 @@ impl RowReader {
     pub fn more<'a>(&mut self, message: Message<'a>) -> Result<Turn<'a>, ReplyFault>
         requires pending { 0 < self.old.columns }
 
-        ensures turn { IsTurn message.entry.place result (further_of self.old message.entry.payload.now) }
-        ensures after { self.new ≡ reading_after self.old (further_of self.old message.entry.payload.now) }
+        ensures turn { IsTurn message.entry.place result
+            (further_of self.old message.entry.payload.now) }
+        ensures after { self.new ≡
+            reading_after self.old (further_of self.old message.entry.payload.now) }
     {
         if self.awaited == 0 {
             return self.row(message);
@@ -138,7 +140,8 @@ impl RowReader {
     pub fn found_row<'a>(&self, message: Message<'a>) -> Row<'a>
         requires { IsSome (cells_of self.now.columns message.payload.now) }
 
-        ensures cells { cells_of self.now.columns message.entry.payload.now ≡ Some (row_cells result) }
+        ensures cells { cells_of self.now.columns message.entry.payload.now ≡
+            Some (row_cells result) }
         ensures place { result.place ≡ message.entry.place }
     {
         Row::known(self.columns, message.payload, message.place)
@@ -147,8 +150,10 @@ impl RowReader {
     // Reads a message in a row's place.
     #[inline]
     fn row<'a>(&mut self, message: Message<'a>) -> Result<Turn<'a>, ReplyFault>
-        ensures turn { IsTurn message.entry.place result (row_of self.old.ends self.old.columns message.entry.payload.now) }
-        ensures after { self.new ≡ reading_after self.old (row_of self.old.ends self.old.columns message.entry.payload.now) }
+        ensures turn { IsTurn message.entry.place result
+            (row_of self.old.ends self.old.columns message.entry.payload.now) }
+        ensures after { self.new ≡ reading_after self.old
+            (row_of self.old.ends self.old.columns message.entry.payload.now) }
     {
         if is_in_ends_place(self.ends, message.payload) {
             if !is_end_packet(self.ends, message.payload) {

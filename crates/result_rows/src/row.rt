@@ -21,7 +21,8 @@ impl<'a> Row<'a> {
     // Reads a row of so many columns, of the message that began at this place.
     #[inline]
     pub(crate) fn read(columns: u32, payload: &'a [u8], place: u64) -> Option<Row<'a>>
-        ensures { MatchOption result (cells_of columns payload.now ≡ None) (λ row. (cells_of columns payload.now ≡ Some (row_cells row)) × (row.place ≡ place)) }
+        ensures { MatchOption result (cells_of columns payload.now ≡ None) (λ row.
+            (cells_of columns payload.now ≡ Some (row_cells row)) × (row.place ≡ place)) }
     {
         if !are_cells(columns, payload) {
             return None;
@@ -131,7 +132,8 @@ impl<'a> Iterator for Cells<'a> {
 // The cell that begins the bytes, and the rest.
 #[inline]
 fn cell_of(bytes: &[u8]) -> Option<(Option<&[u8]>, &[u8])>
-    ensures { option_map (λ parts. (option_copied parts.0, parts.1.now)) result ≡ cell_of bytes.now }
+    ensures { option_map (λ parts. (option_copied parts.0, parts.1.now)) result ≡
+        cell_of bytes.now }
 {
     if let [0xfb, rest @ ..] = bytes {
         return Some((None, rest));

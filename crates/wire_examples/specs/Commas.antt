@@ -2,5 +2,6 @@
 use Rattle.std.specs.Prelude.{[], ◌∷◌}
 use Rattle.grammar.specs.Language.{Language, Many, Fixed}
 
+-- any number of commas, one after the other
 abbrev pub commas : Language
 commas = Many (Fixed (44 ∷ []))

@@ -9,6 +9,7 @@ use Rattle.wire_forms.specs.declared.ends.Ends.TheVariants.{Eof, Ok as OkEnds}
 use Rattle.wire_forms.specs.declared.greeting.Greeting.{Greeting}
 use Rattle.wire_forms.specs.declared.login_fault.LoginFault.TheVariants.{NotProtocol10, PluginUnsupported, Refused, Garbled}
 
+-- the byte that ends a text
 abbrev pub zero_byte : List ℕ
 zero_byte = 0 ∷ []
 
@@ -20,25 +21,29 @@ greeting_front = 10 ∷ codes "8.0.35" ++ 0 ∷ 8 ∷ 0 ∷ 0 ∷ 0 ∷ codes "a
 abbrev pub greeting_end : List ℕ
 greeting_end = 21 ∷ 0 ∷ 0 ∷ 0 ∷ 0 ∷ 0 ∷ 0 ∷ 0 ∷ 0 ∷ 0 ∷ 0 ∷ codes "ijklmnopqrst" ++ zero_byte
 
--- capabilities 0xdfffffff with plugins, 0xdff7ffff without, 0xdfff7fff without a scramble of twenty bytes, 0xdeffffff without CLIENT_DEPRECATE_EOF;
--- between their halves stand the character set and the status
+-- Between the halves of a greeting's capabilities stand the character set and the status.
+
+-- a greeting up to its plugin's name, with capabilities 0xdfffffff
 abbrev pub greeting : List ℕ
 greeting = greeting_front ++ 255 ∷ 255 ∷ 255 ∷ 2 ∷ 0 ∷ 255 ∷ 223 ∷ greeting_end
 
+-- a greeting without plugins: capabilities 0xdff7ffff
 abbrev pub plain_greeting : List ℕ
 plain_greeting = greeting_front ++ 255 ∷ 255 ∷ 255 ∷ 2 ∷ 0 ∷ 247 ∷ 223 ∷ greeting_end
 
+-- a greeting without a scramble of twenty bytes, up to its plugin's name: capabilities 0xdfff7fff
 abbrev pub old_greeting : List ℕ
 old_greeting = greeting_front ++ 255 ∷ 127 ∷ 255 ∷ 2 ∷ 0 ∷ 255 ∷ 223 ∷ greeting_end
 
+-- a greeting without CLIENT_DEPRECATE_EOF, up to its plugin's name: capabilities 0xdeffffff
 abbrev pub eof_greeting : List ℕ
 eof_greeting = greeting_front ++ 255 ∷ 255 ∷ 255 ∷ 2 ∷ 0 ∷ 255 ∷ 222 ∷ greeting_end
 
--- a greeting of version 8.2.0
+-- a greeting of version 8.2.0, up to its plugin's name
 abbrev pub newer_greeting : List ℕ
 newer_greeting = 10 ∷ codes "8.2.0" ++ 0 ∷ 8 ∷ 0 ∷ 0 ∷ 0 ∷ codes "abcdefgh" ++ 0 ∷ 255 ∷ 255 ∷ 255 ∷ 2 ∷ 0 ∷ 255 ∷ 223 ∷ greeting_end
 
--- What a server's first messages say.
+-- what a server's first messages say
 pub record Greetings : Type 0 where
   pub of_mysql : greeting_of (greeting ++ codes "caching_sha2_password" ++ zero_byte) ≡ Ok (record { version = kept_text (codes "8.0.35"); scramble = codes "abcdefghijklmnopqrst"; plugin = kept_text (codes "caching_sha2_password"); ends = OkEnds; newer = false })
   pub with_eof : greeting_of (eof_greeting ++ codes "caching_sha2_password" ++ zero_byte) ≡ Ok (record { version = kept_text (codes "8.0.35"); scramble = codes "abcdefghijklmnopqrst"; plugin = kept_text (codes "caching_sha2_password"); ends = Eof; newer = false })
@@ -57,7 +62,7 @@ pub record Greetings : Type 0 where
 abbrev pub before_user : List ℕ
 before_user = 0 ∷ 0 ∷ 0 ∷ 4 ∷ 45 ∷ 0 ∷ 0 ∷ 0 ∷ 0 ∷ 0 ∷ 0 ∷ 0 ∷ 0 ∷ 0 ∷ 0 ∷ 0 ∷ 0 ∷ 0 ∷ 0 ∷ 0 ∷ 0 ∷ 0 ∷ 0 ∷ 0 ∷ 0 ∷ 0 ∷ 0 ∷ 0 ∷ []
 
--- A user without a password, and one with an answer of twenty bytes: with capabilities 0x0008a205, and with 0x0108a205.
+-- a user without a password, and one with an answer of twenty bytes: with capabilities 0x0008a205, and with 0x0108a205
 pub record Responses : Type 0 where
   pub without : response (codes "u") None Eof ≡ 5 ∷ 162 ∷ 8 ∷ 0 ∷ before_user ++ codes "u" ++ 0 ∷ 0 ∷ codes "mysql_native_password" ++ zero_byte
   pub with_answer : response (codes "root") (Some (codes "ABCDEFGHIJKLMNOPQRST")) Eof ≡ 5 ∷ 162 ∷ 8 ∷ 0 ∷ before_user ++ codes "root" ++ 0 ∷ 20 ∷ codes "ABCDEFGHIJKLMNOPQRSTmysql_native_password" ++ zero_byte
@@ -68,12 +73,12 @@ pub record Responses : Type 0 where
 abbrev pub response_to : List ℕ → Option (List ℕ)
 response_to message = option_map (λ (found : Greeting). response (codes "u") None found.ends) (result_ok (greeting_of message))
 
--- The response asks for CLIENT_DEPRECATE_EOF exactly where the greeting offers it.
+-- the response asks for CLIENT_DEPRECATE_EOF exactly where the greeting offers it
 pub record LoginsUnderEither : Type 0 where
   pub with_eof : response_to (eof_greeting ++ codes "caching_sha2_password" ++ zero_byte) ≡ Some (5 ∷ 162 ∷ 8 ∷ 0 ∷ before_user ++ codes "u" ++ 0 ∷ 0 ∷ codes "mysql_native_password" ++ zero_byte)
   pub without_eof : response_to (greeting ++ codes "caching_sha2_password" ++ zero_byte) ≡ Some (5 ∷ 162 ∷ 8 ∷ 1 ∷ before_user ++ codes "u" ++ 0 ∷ 0 ∷ codes "mysql_native_password" ++ zero_byte)
 
--- What requests for another plugin say.
+-- what requests for another plugin say
 pub record RequestsForAPlugin : Type 0 where
   pub native : switch_of (254 ∷ codes "mysql_native_password" ++ 0 ∷ codes "ABCDEFGHIJKLMNOPQRST" ++ zero_byte) ≡ Ok (record { scramble = codes "ABCDEFGHIJKLMNOPQRST" })
   pub no_zero_after : switch_of (254 ∷ codes "mysql_native_password" ++ 0 ∷ codes "ABCDEFGHIJKLMNOPQRST") ≡ Ok (record { scramble = codes "ABCDEFGHIJKLMNOPQRST" })

@@ -3,7 +3,7 @@ use Rattle.std.specs.Prelude.{◌≡◌, [], ◌∷◌, Some, None, codes}
 use Rattle.wire_forms.specs.Lenenc.{lenenc, lenenc_of}
 use Rattle.wire_forms.specs.Packet.{packet_header, packets, packet_count, id_after}
 
--- Numbers, written as short as it goes and read.
+-- numbers, written as short as it goes and read
 pub record Numbers : Type 0 where
   pub one_byte : lenenc 250 ≡ 250 ∷ []
   pub two_bytes : lenenc 251 ≡ 252 ∷ 251 ∷ 0 ∷ []
@@ -18,7 +18,7 @@ pub record Numbers : Type 0 where
   pub short : lenenc_of (252 ∷ 5 ∷ []) ≡ None
   pub short_eight : lenenc_of (254 ∷ 1 ∷ 2 ∷ 3 ∷ 4 ∷ 5 ∷ 6 ∷ 7 ∷ []) ≡ None
 
--- A query is one packet, and the answer to it has the next sequence id; what a full packet and the next begin with.
+-- a query is one packet, and the answer to it has the next sequence id; and the headers of the longest packet but one and of a full one
 pub record PacketsOfAQuery : Type 0 where
   pub query : packets 0 (3 ∷ codes "SELECT 1") ≡ 9 ∷ 0 ∷ 0 ∷ 0 ∷ 3 ∷ codes "SELECT 1"
   pub after_it : id_after (packet_count 9) 0 ≡ 1

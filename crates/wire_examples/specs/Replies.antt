@@ -8,14 +8,15 @@ use Rattle.wire_forms.specs.declared.ends.Ends.TheVariants.{Eof, Ok}
 use Rattle.wire_forms.specs.declared.refusal.Refusal.{Refusal}
 use Rattle.wire_forms.specs.declared.reply.Reply.TheVariants.{Done, Refused, Columns}
 
--- the ERR of a table that doesn't exist, without a message, and what it says
+-- the ERR of a table that doesn't exist, without a message
 abbrev pub no_table : List ℕ
 no_table = 255 ∷ 122 ∷ 4 ∷ codes "#42S02"
 
+-- what that ERR says
 abbrev pub no_table_refusal : Refusal
 no_table_refusal = record { code = 1146; state = codes "42S02"; message = kept_text [] }
 
--- What the first messages of replies say.
+-- what the first messages of replies say
 pub record FirstMessages : Type 0 where
   pub ok : reply_of (0 ∷ 0 ∷ 0 ∷ 2 ∷ 0 ∷ 0 ∷ 0 ∷ []) ≡ Some Done
   pub ok_too_short : reply_of (0 ∷ 0 ∷ 0 ∷ 2 ∷ 0 ∷ 0 ∷ []) ≡ None
@@ -36,24 +37,27 @@ pub record FirstMessages : Type 0 where
 abbrev pub id_definition : List ℕ
 id_definition = 3 ∷ codes "def" ++ 1 ∷ codes "s" ++ 1 ∷ codes "t" ++ 1 ∷ codes "t" ++ 2 ∷ codes "id" ++ 2 ∷ codes "id" ++ 12 ∷ 63 ∷ 0 ∷ 11 ∷ 0 ∷ 0 ∷ 0 ∷ 3 ∷ 3 ∷ 0 ∷ 0 ∷ 0 ∷ 0 ∷ []
 
+-- an EOF
 abbrev pub eof : List ℕ
 eof = 254 ∷ 0 ∷ 0 ∷ 2 ∷ 0 ∷ []
 
--- an OK that ends a result set in place of an EOF, and the OK with which a statement is answered
+-- an OK that ends a result set in place of an EOF
 abbrev pub ending_ok : List ℕ
 ending_ok = 254 ∷ 0 ∷ 0 ∷ 2 ∷ 0 ∷ 0 ∷ 0 ∷ []
 
+-- the OK with which a statement is answered
 abbrev pub done_ok : List ℕ
 done_ok = 0 ∷ 0 ∷ 0 ∷ 2 ∷ 0 ∷ 0 ∷ 0 ∷ []
 
--- a result set of so many columns whose definitions were read, before the EOF after them, and before the rows
+-- a result set of so many columns whose definitions were read, before the EOF after them
 abbrev pub at_eof : ℕ → Reading
 at_eof columns = record { columns = columns; awaited = 1; ends = Eof }
 
+-- a result set of so many columns, before its rows
 abbrev pub at_rows : Ends → ℕ → Reading
 at_rows ends columns = record { columns = columns; awaited = 0; ends = ends }
 
--- What the further messages of a result set say that ends by EOF packets.
+-- what the further messages of a result set say that ends by EOF packets
 pub record FurtherMessages : Type 0 where
   pub column : further_of (columns_counted Eof 1) id_definition ≡ definition
   pub byte_after_column : further_of (columns_counted Eof 1) (id_definition ++ 0 ∷ []) ≡ garbled
@@ -70,7 +74,7 @@ pub record FurtherMessages : Type 0 where
   pub err : further_of (at_rows Eof 1) no_table ≡ refused no_table_refusal
   pub nothing : further_of (at_rows Eof 1) [] ≡ garbled
 
--- What those of one say that ends by an OK.
+-- what the further messages of a result set say that ends by an OK
 pub record FurtherMessagesWithoutEof : Type 0 where
   pub column : further_of (columns_counted Ok 1) id_definition ≡ definition
   pub eof_for_column : further_of (columns_counted Ok 1) eof ≡ garbled
@@ -87,8 +91,7 @@ pub record FurtherMessagesWithoutEof : Type 0 where
   pub err : further_of (at_rows Ok 1) no_table ≡ refused no_table_refusal
   pub nothing : further_of (at_rows Ok 1) [] ≡ garbled
 
--- A message of fe and others is in the end's place up to eight bytes where result sets end by EOF packets, and else up to the last size that
--- fills no packet.
+-- a message that begins with fe is in the end's place up to eight bytes where EOF packets end result sets, and else unless it fills a packet
 pub record PlacesOfEnds : Type 0 where
   pub last_with_eof : (bytes : List ℕ) → length bytes ≡ 7 → is_in_ends_place Eof (254 ∷ bytes) ≡ true
   pub first_row_with_eof : (bytes : List ℕ) → length bytes ≡ 8 → is_in_ends_place Eof (254 ∷ bytes) ≡ false

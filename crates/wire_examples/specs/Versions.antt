@@ -2,7 +2,7 @@
 use Rattle.std.specs.Prelude.{◌≡◌, true, false, [], codes}
 use Rattle.wire_forms.specs.Version.{front_number, is_newer}
 
--- Which versions have SHOW BINARY LOG STATUS, and which don't.
+-- which versions have SHOW BINARY LOG STATUS, and which don't
 pub record Versions : Type 0 where
   pub first_newer : is_newer (codes "8.2.0") ≡ true
   pub innovation : is_newer (codes "8.3") ≡ true

@@ -23,9 +23,10 @@ offers wanted bytes = bit_and (capabilities bytes) wanted == wanted
 abbrev pub second_size : List ℕ → ℕ
 second_size bytes = max 13 (slice_index bytes 20 - 8)
 
--- what stands after the version: connection id 4, scramble 8, 00, low capabilities 2, character set 1, status 2,
+-- What stands after the version: connection id 4, scramble 8, 00, low capabilities 2, character set 1, status 2,
 -- high capabilities 2, scramble length 1, ten bytes, the scramble's second part, the plugin.
--- The capabilities for protocol 41 (0x200) and for a scramble of twenty bytes (0x8000) are offered.
+
+-- the fields up to the plugin are there, and protocol 41 (0x200) and a scramble of twenty bytes (0x8000) are offered
 abbrev pub are_fields : List ℕ → Bool
 are_fields bytes = nat_le (31 + second_size bytes) (length bytes) && slice_index bytes 12 == 0 && offers 0x8200 bytes
 

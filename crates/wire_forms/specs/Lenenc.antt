@@ -10,15 +10,17 @@ lenenc n =
     (if nat_lt n 16777216 then 253 ∷ n % 256 ∷ n / 256 % 256 ∷ n / 65536 ∷ [] else
     (254 ∷ to_le_bytes w64 n)))
 
--- a number of two, three or eight bytes after the first one, and the length of the whole spelling
+-- a number of two bytes after the first one, and the length of the whole spelling
 abbrev pub two_bytes : List ℕ → Option (ℕ × ℕ)
 two_bytes (a ∷ b ∷ rest) = Some (a + 256 * b, 3)
 two_bytes rest = None
 
+-- a number of three bytes after the first one, and the length of the whole spelling
 abbrev pub three_bytes : List ℕ → Option (ℕ × ℕ)
 three_bytes (a ∷ b ∷ c ∷ rest) = Some (a + 256 * b + 65536 * c, 4)
 three_bytes rest = None
 
+-- a number of eight bytes after the first one, and the length of the whole spelling
 abbrev pub eight_bytes : List ℕ → Option (ℕ × ℕ)
 eight_bytes rest = if nat_lt (length rest) 8 then None else Some (from_le_bytes w64 (take 8 rest), 9)
 

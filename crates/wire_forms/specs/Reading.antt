@@ -13,8 +13,7 @@ abbrev pub awaited_count : Ends → ℕ → ℕ
 awaited_count Eof columns = columns + 1
 awaited_count Ok columns = columns
 
--- where in a result set a reader is: of so many columns, so many messages are awaited before the rows, and result sets end so;
--- without columns nothing is pending
+-- where a reader is: in a result set of so many columns (0: in none), so many messages before its rows; and how result sets end
 pub record Reading : Type 0 where
   pub columns : ℕ
   pub awaited : ℕ
@@ -36,19 +35,22 @@ pub data Further : Type 0 where
   refused : Refusal → Further
   garbled : Further
 
--- one of the messages before the rows
+-- a message before the rows, by whether it is one that may stand there
 abbrev pub definition_if : Bool → Further
 definition_if true = definition
 definition_if false = garbled
 
+-- a message in the end's place, by whether it is an end
 abbrev pub end_if : Bool → Further
 end_if true = end
 end_if false = garbled
 
+-- a message in an ERR's place: what it says, where it is an ERR
 abbrev pub refused_if : Option Refusal → Further
 refused_if (Some refusal) = refused refusal
 refused_if None = garbled
 
+-- a message in a row's place: its cells, where it is a row
 abbrev pub row_if : Option (List Cell) → Further
 row_if (Some cells) = row cells
 row_if None = garbled

@@ -2,18 +2,19 @@
 ghost use Rattle.std.specs.Prelude.{◌<◌, ◌^◌};
 ghost use Rattle.grammar.specs.Reading.{size_of};
 
-use crate::words::{bytes_of, first_and_rest, limit_and_rest, text_of};
+use crate::words::{add_counted, add_number, add_text, bytes_of, first_and_rest, limit_and_rest};
 use grammar::{after, first_byte, optional, read_fixed};
 use plain_data::OutOfMemory;
 use std::alloc::Global;
 
-pub fn answer(alloc: Global, call: &str, words: &str) -> Result<String, OutOfMemory> {
+/// Adds what comes of a call on parts of a grammar. A refusal is for want of memory.
+pub fn answer(out: &mut String, alloc: Global, call: &str, words: &str) -> Result<(), OutOfMemory> {
     match call {
-        "read_fixed" => fixed(alloc, words),
-        "after" => after_three(alloc, words),
-        "optional" => perhaps(alloc, words),
-        "first_byte" => first(alloc, words),
-        _ => text_of(alloc, "no such call"),
+        "read_fixed" => fixed(out, words),
+        "after" => add_reading(out, after(3, reading_of(words))),
+        "optional" => add_reading(out, optional(reading_of(words))),
+        "first_byte" => first(out, alloc, words),
+        _ => add_text(out, "no such call"),
     }
 }
 
@@ -27,27 +28,19 @@ fn reading_of(words: &str) -> Result<usize, usize>
     if word == "Ok" { Ok(size) } else { Err(size) }
 }
 
-fn reading_words(alloc: Global, reading: Result<usize, usize>) -> Result<String, OutOfMemory> {
+fn add_reading(out: &mut String, reading: Result<usize, usize>) -> Result<(), OutOfMemory> {
     match reading {
-        Ok(size) => Ok(format!(in alloc; "Ok {size}")?),
-        Err(place) => Ok(format!(in alloc; "Err {place}")?),
+        Ok(size) => add_counted(out, "Ok ", size as u64),
+        Err(place) => add_counted(out, "Err ", place as u64),
     }
 }
 
-fn fixed(alloc: Global, words: &str) -> Result<String, OutOfMemory> {
+fn fixed(out: &mut String, words: &str) -> Result<(), OutOfMemory> {
     let (word, bytes) = first_and_rest(words);
-    reading_words(alloc, read_fixed(bytes.as_bytes(), word.as_bytes()))
+    add_reading(out, read_fixed(bytes.as_bytes(), word.as_bytes()))
 }
 
-fn after_three(alloc: Global, words: &str) -> Result<String, OutOfMemory> {
-    reading_words(alloc, after(3, reading_of(words)))
-}
-
-fn perhaps(alloc: Global, words: &str) -> Result<String, OutOfMemory> {
-    reading_words(alloc, optional(reading_of(words)))
-}
-
-fn first(alloc: Global, words: &str) -> Result<String, OutOfMemory> {
+fn first(out: &mut String, alloc: Global, words: &str) -> Result<(), OutOfMemory> {
     let byte = first_byte(&bytes_of(alloc, words)?);
-    Ok(format!(in alloc; "{byte}")?)
+    add_number(out, u64::from(byte))
 }

@@ -1,84 +1,94 @@
-//! The words of cases: numbers, and bytes in percent-encoding.
+//! The words of cases: numbers, and bytes in percent-encoding. Each call that adds words to a text refuses
+//! for want of memory alone, and may have added some of them then.
 use percent_encoding::{CONTROLS, percent_decode, percent_encode};
 use plain_data::OutOfMemory;
 use std::alloc::Global;
 use wire_forms::{Ends, Refusal};
 
-// The bytes that a word spells.
+/// The bytes that a word spells, as they are or in percent-encoding. A refusal is for want of memory.
 pub fn bytes_of(alloc: Global, word: &str) -> Result<Vec<u8>, OutOfMemory> {
     let mut bytes = Vec::new(alloc);
     percent_decode(word.as_bytes()).append_to(&mut bytes)?;
     Ok(bytes)
 }
 
-// Adds bytes in percent-encoding: controls, bytes past 0x7e and the percent sign are spelled.
-pub fn add_bytes(words: &mut String, bytes: &[u8]) -> Result<(), OutOfMemory> {
-    percent_encode(bytes, CONTROLS.add(b'%')).append_to(words)?;
+/// Adds bytes in percent-encoding: controls, bytes past 0x7e and the percent sign are spelled.
+pub fn add_bytes(out: &mut String, bytes: &[u8]) -> Result<(), OutOfMemory> {
+    percent_encode(bytes, CONTROLS.add(b'%')).append_to(out)?;
     Ok(())
 }
 
-pub fn add_text(words: &mut String, text: &str) -> Result<(), OutOfMemory> {
-    words.push_str(text)?;
+/// Adds a text as it is.
+pub fn add_text(out: &mut String, text: &str) -> Result<(), OutOfMemory> {
+    out.push_str(text)?;
     Ok(())
 }
 
-// The spelling of bytes.
-pub fn words_of(alloc: Global, bytes: &[u8]) -> Result<String, OutOfMemory> {
-    let mut words = String::new(alloc);
-    add_bytes(&mut words, bytes)?;
-    Ok(words)
+/// Adds a number in decimal digits.
+pub fn add_number(out: &mut String, number: u64) -> Result<(), OutOfMemory> {
+    write!(out, "{number}")?;
+    Ok(())
 }
 
-// Bytes in hexadecimal digits.
-pub fn hex_of(alloc: Global, bytes: &[u8]) -> Result<String, OutOfMemory> {
-    let mut digits = String::new(alloc);
+/// Adds a text, and bytes in percent-encoding.
+pub fn add_named(out: &mut String, name: &str, bytes: &[u8]) -> Result<(), OutOfMemory> {
+    add_text(out, name)?;
+    add_bytes(out, bytes)
+}
+
+/// Adds a text, and a number in decimal digits.
+pub fn add_counted(out: &mut String, name: &str, number: u64) -> Result<(), OutOfMemory> {
+    add_text(out, name)?;
+    add_number(out, number)
+}
+
+/// Adds `true` or `false`.
+pub fn add_truth(out: &mut String, truth: bool) -> Result<(), OutOfMemory> {
+    add_text(out, if truth { "true" } else { "false" })
+}
+
+/// Adds bytes in hexadecimal digits.
+pub fn add_hex(out: &mut String, bytes: &[u8]) -> Result<(), OutOfMemory> {
     for byte in bytes {
-        let two = format!(in alloc; "{byte:02x}")?;
-        digits.push_str(two.as_str())?;
+        write!(out, "{byte:02x}")?;
     }
-    Ok(digits)
+    Ok(())
 }
 
-pub fn text_of(alloc: Global, text: &str) -> Result<String, OutOfMemory> {
-    Ok(String::from_str(alloc, text)?)
+/// Adds what a server says in an ERR.
+pub fn add_refusal(out: &mut String, refusal: &Refusal) -> Result<(), OutOfMemory> {
+    add_counted(out, "refused ", u64::from(refusal.code))?;
+    add_named(out, " ", &refusal.state)?;
+    add_named(out, " '", refusal.message.as_slice())?;
+    add_text(out, "'")
 }
 
-// The first word, and what stands after it.
+/// The first word, and what stands after it; both are empty where nothing is there.
 pub fn first_and_rest(words: &str) -> (&str, &str) {
     words.split_once(' ').unwrap_or((words, ""))
 }
 
-// The number that stands first, and what stands after it. A word that is no number is 0.
+/// The number that stands first, and what stands after it. A word that is no number is 0.
 pub fn number_and_rest(words: &str) -> (u64, &str) {
     let (word, rest) = first_and_rest(words);
     (word.parse().unwrap_or(0), rest)
 }
 
-// The same, for the numbers of one byte.
+/// The number of one byte that stands first, and what stands after it. A word that is none is 0.
 pub fn byte_and_rest(words: &str) -> (u8, &str) {
     let (word, rest) = first_and_rest(words);
     (word.parse().unwrap_or(0), rest)
 }
 
-// The same, for the numbers of four bytes.
+/// The number of four bytes that stands first, and what stands after it. A word that is none is 0.
 pub fn limit_and_rest(words: &str) -> (u32, &str) {
     let (word, rest) = first_and_rest(words);
     (word.parse().unwrap_or(0), rest)
 }
 
-// How result sets end, `ok` or another word, and what stands after it.
+/// How result sets end, by an OK at the word `ok` and else by EOF packets, and what stands after the word.
 pub fn ends_and_rest(words: &str) -> (Ends, &str) {
     let (word, rest) = first_and_rest(words);
     let ends = if word == "ok" { Ends::Ok } else { Ends::Eof };
     (ends, rest)
-}
-
-// What a server says in an ERR.
-pub fn refusal_words(alloc: Global, refusal: &Refusal) -> Result<String, OutOfMemory> {
-    let mut words = format!(in alloc; "refused {} ", refusal.code)?;
-    add_bytes(&mut words, &refusal.state)?;
-    add_text(&mut words, " '")?;
-    add_bytes(&mut words, refusal.message.as_slice())?;
-    add_text(&mut words, "'")?;
-    Ok(words)
 }
