@@ -2,7 +2,7 @@
 
 use crate::shelf_cases::ShelfCases;
 use crate::trap_disk::TrapDisk;
-use crate::words::{first_word, or_nothing, said, said_of};
+use crate::words::{digits, first_word, or_nothing, said, said_of};
 use link_traits::{Folder, FolderFailed};
 use plain_data::NameList;
 use std::alloc::Global;
@@ -49,7 +49,7 @@ impl DiskCases {
             "rename" => self.rename(words),
             "shelf" => self.shelf(),
             "take_back" => self.take_back(),
-            "faults" => Ok(format!(in self.rt.alloc(); "{}", self.folder.faults())?),
+            "faults" => digits(self.rt.alloc(), self.folder.faults()),
             _ => said(self.rt.alloc(), "no call"),
         }
     }

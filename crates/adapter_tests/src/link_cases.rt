@@ -2,7 +2,7 @@
 ghost use Rattle.std.specs.Prelude.{◌≡◌, ◌<◌, length};
 
 use crate::wire::Wire;
-use crate::words::{bytes_of, first_word, number_of, said, said_of, spelled};
+use crate::words::{bytes_of, digits, first_word, number_of, said, said_of, spelled};
 use link_traits::{Link, LinkFailed};
 use std::alloc::Global;
 use std::io;
@@ -20,7 +20,7 @@ pub fn answer_link<S: Read + Write + Drop>(
         "send" => send(alloc, link, words),
         "recv" => receive(alloc, link, words),
         "fill" => fill(alloc, link, words),
-        "faults" => Ok(format!(in alloc; "{}", link.faults())?),
+        "faults" => digits(alloc, link.faults()),
         _ => said(alloc, "no call"),
     }
 }

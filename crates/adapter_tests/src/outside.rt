@@ -4,7 +4,7 @@ use crate::disk_cases::DiskCases;
 use crate::link_cases::WireCases;
 use crate::report_cases::{answer_clock, answer_sink};
 use crate::site_cases::SiteCases;
-use crate::words::first_word;
+use crate::words::{first_word, said};
 use std::io;
 
 /// One adapter of each kind, on which the cases are tried one after the other.
@@ -36,12 +36,19 @@ impl Outside {
             "link" => self.site.answer_link(call, words),
             "peer" => self.site.answer_peer(call, words),
             "wire" => self.wire.answer(call, words),
+            _ => self.answer_here(object, call, words),
+        }
+    }
+
+    // What comes of a case of an adapter that is no connection.
+    fn answer_here(&mut self, object: &str, call: &str, words: &str) -> io::Result<String> {
+        match object {
             "folder" => self.disk.answer(call, words),
             "shelf" => self.disk.answer_shelf(call, words),
             "disk" => self.disk.answer_disk(call, words),
             "sink" => answer_sink(self.rt, call, words),
             "clock" => answer_clock(self.rt, call),
-            _ => Ok(String::from_str(self.rt.alloc(), "no adapter")?),
+            _ => said(self.rt.alloc(), "no adapter"),
         }
     }
 }

@@ -1,7 +1,7 @@
 //! Cases of a shelf that writes into a directory.
 
 use crate::trap_disk::TrapDisk;
-use crate::words::{bytes_of, number_of, said, said_of, spelled};
+use crate::words::{bytes_of, digits, number_of, said, said_of, spelled};
 use link_traits::{FolderFailed, Shelf};
 use std::alloc::Global;
 use std::io;
@@ -57,13 +57,13 @@ impl ShelfCases {
 
     /// What comes of a call.
     pub fn answer(&mut self, call: &str, words: &str) -> io::Result<String> {
-        match (call, self.is_begun) {
-            ("create", false) => self.create(words),
-            ("append", true) => self.append(words),
-            ("finish", true) => self.finish(),
-            ("open", _) => self.open(words),
-            ("read", _) => self.read(words),
-            ("faults", _) => Ok(format!(in self.alloc; "{}", self.shelf.faults())?),
+        match call {
+            "create" => self.create(words),
+            "append" => self.append(words),
+            "finish" => self.finish(),
+            "open" => self.open(words),
+            "read" => self.read(words),
+            "faults" => digits(self.alloc, self.shelf.faults()),
             _ => said(self.alloc, "no call"),
         }
     }

@@ -2,8 +2,8 @@
 
 use crate::link_cases::answer_link;
 use crate::peer::Peer;
-use crate::words::{first_word, number_of, said, said_of};
-use link_traits::{LinkFailed, Site};
+use crate::words::{digits, first_word, number_of, said, said_of};
+use link_traits::Site;
 use std::io;
 use std::marker::Model;
 use system_outside::{TcpLink, TcpSite};
@@ -44,10 +44,10 @@ impl SiteCases {
         match call {
             "new" => self.begin(),
             "aim" => self.aim(words),
-            "connect" => self.connect(),
-            "connect_sole" => self.connect_sole(),
+            "connect" => self.connect(false),
+            "connect_sole" => self.connect(true),
             "give_back" => self.give_back(),
-            "faults" => Ok(format!(in self.rt.alloc(); "{}", self.site.faults())?),
+            "faults" => digits(self.rt.alloc(), self.site.faults()),
             _ => said(self.rt.alloc(), "no call"),
         }
     }
@@ -89,30 +89,19 @@ impl SiteCases {
         said_of(self.rt.alloc(), aimed, "aimed")
     }
 
-    fn connect(&mut self) -> io::Result<String> {
+    // Makes a link, which is alone or not.
+    fn connect(&mut self, sole: bool) -> io::Result<String> {
         if self.link.is_some() {
             return said(self.rt.alloc(), "a link is out");
         }
-        match self.site.connect() {
-            Ok(link) => {
-                self.link = Some(link);
-                said(self.rt.alloc(), "a link")
-            }
-            Err(LinkFailed) => said(self.rt.alloc(), "failed"),
-        }
-    }
-
-    fn connect_sole(&mut self) -> io::Result<String> {
-        if self.link.is_some() {
-            return said(self.rt.alloc(), "a link is out");
-        }
-        match self.site.connect_sole() {
-            Ok(link) => {
-                self.link = Some(link);
-                said(self.rt.alloc(), "a link")
-            }
-            Err(LinkFailed) => said(self.rt.alloc(), "failed"),
-        }
+        let made = if sole {
+            self.site.connect_sole()
+        } else {
+            self.site.connect()
+        };
+        self.link = made.ok();
+        let is_made = self.link.is_some();
+        said_of(self.rt.alloc(), is_made, "a link")
     }
 
     fn give_back(&mut self) -> io::Result<String> {

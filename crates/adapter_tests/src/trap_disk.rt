@@ -6,8 +6,9 @@ use std::io::{ErrorKind, Read, Seek, SeekFrom, Write};
 use std::rt::Files;
 use std::{fs, io};
 
-/// The system's disk, but that `closed` doesn't open, `full` takes no bytes, `unreadable` gives none,
-/// nothing is renamed to `taken`, and neither `trap` nor a directory that has one gets to the disk.
+/// The system's disk, but that `closed` doesn't open, `full` takes two bytes and then none, `unreadable`
+/// gives none, nothing is renamed to `taken`, and neither `trap` nor a directory that has one gets to
+/// the disk.
 #[derive(Drop)]
 pub struct TrapDisk {
     rt: HostRuntime,
@@ -57,6 +58,15 @@ impl TrapFile {
         let trap = format!(in self.rt.alloc(); "{path}/trap")?;
         Ok(fs::exists(&self.rt, trap).unwrap_or(false))
     }
+
+    // How many more bytes the file takes.
+    fn room(&self) -> io::Result<usize> {
+        if !self.path.as_str().ends_with("/full") {
+            return Ok(usize::MAX);
+        }
+        let size = self.file.metadata()?.len();
+        Ok(2 - size.min(2) as usize)
+    }
 }
 
 impl Read for TrapFile {
@@ -68,8 +78,8 @@ impl Read for TrapFile {
 
 impl Write for TrapFile {
     fn write(&mut self, buf: &[u8]) -> io::Result<usize> {
-        fails_at(self.path.as_str(), "/full")?;
-        self.file.write(buf)
+        let room = self.room()?;
+        self.file.write(&buf[..buf.len().min(room)])
     }
 
     fn flush(&mut self) -> io::Result<()> {

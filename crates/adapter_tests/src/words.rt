@@ -22,6 +22,11 @@ pub fn said_of(alloc: Global, is_well: bool, well: &str) -> io::Result<String> {
     said(alloc, if is_well { well } else { "failed" })
 }
 
+/// A number in digits.
+pub fn digits(alloc: Global, number: u64) -> io::Result<String> {
+    Ok(format!(in alloc; "{number}")?)
+}
+
 /// The bytes that stand in percent-encoding.
 pub fn bytes_of(alloc: Global, word: &str) -> io::Result<Vec<u8>> {
     let mut bytes = Vec::new(alloc);

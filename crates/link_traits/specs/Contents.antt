@@ -9,6 +9,7 @@ pub record File : Type 0 where
   pub name : List ℕ
   pub bytes : List ℕ
 
+-- the names of the files, in the order of the files
 abbrev pub names : List File → List (List ℕ)
 names files = map (λ file. file.name) files
 

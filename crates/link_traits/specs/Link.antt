@@ -17,10 +17,12 @@ concatenation (list ∷ lists) = list ++ concatenation lists
 abbrev pub stream : Told → List ℕ
 stream told = told.waiting ++ concatenation told.coming
 
+-- the first of the lists, or an empty one
 abbrev pub first : List (List ℕ) → List ℕ
 first [] = []
 first (list ∷ lists) = list
 
+-- the lists after the first
 abbrev pub others : List (List ℕ) → List (List ℕ)
 others [] = []
 others (list ∷ lists) = lists
@@ -66,7 +68,7 @@ pub record IsWithin (room : List ℕ) (count : ℕ) : Type 0 where
   pub some : 0 < count
   pub fits : count ≤ length room
 
--- What a call of a link keeps: whether it is honest, and whether it tells what is said on it; and it stays a link of its site.
+-- what a call of a link keeps: whether it is honest, and whether it tells what is said on it; and it stays a link of its site.
 pub record StaysLink {L : Type 0} (honest tells : L → Type 0) (same_origin : L → L → Type 0) (old new : L) : Type 0 where
   pub still_honest : honest old ↔ honest new
   pub still_tells : tells old ↔ tells new

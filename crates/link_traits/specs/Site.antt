@@ -1,5 +1,7 @@
 -- What a site tells, and what its calls do to it.
 use Rattle.std.specs.Prelude.{◌≡◌, ◌≤◌, ◌+◌, ◌-◌, ◌^◌, ◌↔◌, ℕ, Bool, false, List, [], ◌∷◌, ◌++◌, drop, min, Result, IfOk, OnOk, OnErr}
+use Rattle.honest_server.specs.Link.{ServedLink}
+use Rattle.honest_server.specs.Site.{ServedSite, StaysHonest}
 use Rattle.link_traits.specs.Link.{Told, told_at_start}
 
 -- where connections go
@@ -65,7 +67,11 @@ pub record LosesLink (old new : Links) : Type 0 where
   pub out : new.out + 1 ≡ old.out
   pub none_alone : new.sole ≡ false
 
--- No link makes a site honest, and an honest link keeps it so where the transactions and grants of all links belong together.
+-- the transactions and grants of a link that comes back belong together with those of the others, while so many links are out
+abbrev pub KeepsHonest : Links → ServedSite → ServedLink → Type 0
+KeepsHonest left site link = StaysHonest left.out site link.state
+
+-- no link makes a site honest, and an honest link keeps it so where the transactions and grants of all links belong together.
 pub record ReturnsHonest (old link together new : Type 0) : Type 0 where
   pub before : new → old
   pub stays : old → link → together → new

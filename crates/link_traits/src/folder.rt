@@ -195,7 +195,8 @@ pub trait Folder {
         ensures path { path_of self.new ≡ path_of self.old }
         ensures out { out self.new + 1 ≡ out self.old }
         ensures later { faults self.old ≤ faults self.new }
-        ensures faults { min (faults self.old + Self.Shelf.faults shelf) (2 ^ 64 - 1) ≤ faults self.new };
+        ensures faults { min (faults self.old + Self.Shelf.faults shelf) (2 ^ 64 - 1)
+            ≤ faults self.new };
 
     /// A folder that tells its contents holds each name once.
     ghost own_names: { (folder : Self) → tells folder → HaveOwnNames (contents folder) };

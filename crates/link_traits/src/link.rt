@@ -39,7 +39,8 @@ pub trait Link: Drop {
         requires may { honest self.old → MaySend (served self.old).state message.now }
 
         ensures stays { StaysLink honest tells same_origin self.old self.new }
-        ensures served { honest self.old → IsServed (served self.old) message.now result (served self.new) }
+        ensures served { honest self.old →
+            IsServed (served self.old) message.now result (served self.new) }
         ensures sent { tells self.old → Sends (told self.old) message.now result (told self.new) }
         ensures cause { HasCause (faults self.old) (faults self.new) result };
 
@@ -53,7 +54,8 @@ pub trait Link: Drop {
         requires beside { honest self.old → MayStandBeside (served holder.now) (served self.old) }
 
         ensures stays { StaysLink honest tells same_origin self.old self.new }
-        ensures served { honest self.old → SendsBeside (served holder.now).state (served self.old) message.now result (served self.new) }
+        ensures served { honest self.old → SendsBeside (served holder.now).state (served self.old)
+            message.now result (served self.new) }
         ensures sent { tells self.old → Sends (told self.old) message.now result (told self.new) }
         ensures cause { HasCause (faults self.old) (faults self.new) result };
 
@@ -62,11 +64,14 @@ pub trait Link: Drop {
     /// buffer isn't empty, and that on an honest link that hasn't failed bytes wait.
     fn recv(&mut self, buffer: &mut [u8]) -> Result<usize, LinkFailed>
         requires room { 0 < length buffer.old }
-        requires waits { honest self.old → (served self.old).failed ≡ false → (served self.old).waiting ≢ [] }
+        requires waits { honest self.old →
+            (served self.old).failed ≡ false → (served self.old).waiting ≢ [] }
 
         ensures stays { StaysLink honest tells same_origin self.old self.new }
-        ensures served { honest self.old → TakesServed (served self.old) buffer.new result (served self.new) }
-        ensures received { tells self.old → Receives (told self.old) buffer.new result (told self.new) }
+        ensures served { honest self.old →
+            TakesServed (served self.old) buffer.new result (served self.new) }
+        ensures received { tells self.old →
+            Receives (told self.old) buffer.new result (told self.new) }
         ensures within { IfOk result (λ count. IsWithin buffer.old count) }
         ensures cause { HasCause (faults self.old) (faults self.new) result };
 
@@ -77,7 +82,8 @@ pub trait Link: Drop {
     ghost origin_turns: { (one other : Self) → same_origin one other → same_origin other one };
 
     /// Where one link is of another's site, and that of a third's, the first is of the third's.
-    ghost origins_join: { (one next last : Self) → same_origin one next → same_origin next last → same_origin one last };
+    ghost origins_join: { (one next last : Self) →
+        same_origin one next → same_origin next last → same_origin one last };
 
     /// What is of one site with an honest link is honest.
     ghost honest_alike: { (one other : Self) → same_origin one other → honest one → honest other };

@@ -1,8 +1,8 @@
 //! A server that links can be had of.
 ghost use Rattle.std.specs.Prelude.{◌≡◌, ◌<◌, ◌↔◌, ℕ, true, false, Option, Some, IfOk, OnOk, OnErr};
-ghost use Rattle.honest_server.specs.Site.{ServedSite, Connects, IsNewLink, IsSettled, StaysHonest, TakesBack};
+ghost use Rattle.honest_server.specs.Site.{ServedSite, Connects, IsNewLink, IsSettled, TakesBack};
 ghost use Rattle.link_traits.specs.Cause.{HasCause};
-ghost use Rattle.link_traits.specs.Site.{AddsFaults, Aim, ConnectsTold, IsGiven, Links, LosesLink, OwnsMore, ReturnsHonest, SiteTold, StaysSite, TakesLink, told_after_return};
+ghost use Rattle.link_traits.specs.Site.{AddsFaults, Aim, ConnectsTold, IsGiven, KeepsHonest, Links, LosesLink, OwnsMore, ReturnsHonest, SiteTold, StaysSite, TakesLink, told_after_return};
 
 use crate::link::{Link, LinkFailed};
 use plain_data::OutOfMemory;
@@ -38,7 +38,8 @@ pub trait Site {
 
     /// Keeps host and port for later connections. A refusal, for want of memory, changes nothing.
     fn aim(&mut self, host: &str, port: u16) -> Result<(), OutOfMemory>
-        ensures ok { OnOk result (aim_of self.new ≡ Some (record { host = host.now; port = port })) }
+        ensures ok { OnOk result
+            (aim_of self.new ≡ Some (record { host = host.now; port = port })) }
         ensures err { OnErr result (aim_of self.new ≡ aim_of self.old) }
         ensures stays { StaysSite honest tells self.old self.new }
         ensures served { served self.new ≡ served self.old }
@@ -51,7 +52,8 @@ pub trait Site {
     fn connect(&mut self) -> Result<Self::Link, LinkFailed>
         requires none_alone { 0 < (links self.old).out → (links self.old).sole ≡ false }
 
-        ensures stays { StaysSite honest tells self.old self.new × (aim_of self.new ≡ aim_of self.old) }
+        ensures stays { StaysSite honest tells self.old self.new
+            × (aim_of self.new ≡ aim_of self.old) }
         ensures served { honest self.old → Connects (served self.old) (served self.new) }
         ensures link { IfOk result (λ link. IsGiven (honest self.old) (Self.Link.honest link)
             (IsNewLink (served self.new) false (Self.Link.served link))) }
@@ -65,7 +67,8 @@ pub trait Site {
     fn connect_sole(&mut self) -> Result<Self::Link, LinkFailed>
         requires none_out { (links self.old).out ≡ 0 }
 
-        ensures stays { StaysSite honest tells self.old self.new × (aim_of self.new ≡ aim_of self.old) }
+        ensures stays { StaysSite honest tells self.old self.new
+            × (aim_of self.new ≡ aim_of self.old) }
         ensures served { honest self.old → Connects (served self.old) (served self.new) }
         ensures link { IfOk result (λ link. IsGiven (honest self.old) (Self.Link.honest link)
             (IsNewLink (served self.new) true (Self.Link.served link))) }
@@ -80,15 +83,17 @@ pub trait Site {
     fn give_back(&mut self, link: Self::Link)
         requires may { own self.old link × (0 < (links self.old).out) }
 
-        ensures honest { ReturnsHonest (honest self.old) (Self.Link.honest link)
-            (StaysHonest (links self.new).out (served self.old) (Self.Link.served link).state) (honest self.new) }
-        ensures served { honest self.old → Self.Link.honest link →
-            TakesBack (links self.new).out (served self.old) (Self.Link.served link) (served self.new) }
-        ensures own { 0 < (links self.new).out → (other : Self.Link) → own self.old other → own self.new other }
+        ensures honest { ReturnsHonest (honest self.old) (Self.Link.honest link) (KeepsHonest
+            (links self.new) (served self.old) (Self.Link.served link)) (honest self.new) }
+        ensures served { honest self.old → Self.Link.honest link → TakesBack (links self.new).out
+            (served self.old) (Self.Link.served link) (served self.new) }
+        ensures own { 0 < (links self.new).out →
+            (other : Self.Link) → own self.old other → own self.new other }
         ensures tells { tells self.old ↔ tells self.new }
         ensures told { tells self.old →
             told self.new ≡ told_after_return (told self.old) (Self.Link.told link).sent }
-        ensures links { LosesLink (links self.old) (links self.new) × (aim_of self.new ≡ aim_of self.old) }
+        ensures links { LosesLink (links self.old) (links self.new)
+            × (aim_of self.new ≡ aim_of self.old) }
         ensures faults { AddsFaults (faults self.old) (Self.Link.faults link) (faults self.new) };
 
     /// Its own links are of one site.

@@ -53,6 +53,13 @@ has_returned site number = is_some (messages_of site.returned number)
 abbrev pub told_after_answer : Bool → Told → List ℕ → Told
 told_after_answer ok told message = if ok then told_after_send told message else told_after_failure told
 
+-- a message was sent, or the link has failed; and these calls are counted
+abbrev pub link_after_send : LinkState → Bool → List ℕ → Counts → LinkState
+link_after_send old ok message script = record old {
+  told = told_after_answer ok old.told message;
+  script = script;
+}
+
 -- a link of this number and conversation at its start
 abbrev pub link_begun : SiteState → ℕ → List (List ℕ) → LinkState
 link_begun site number replies = record {

@@ -1,6 +1,6 @@
 //! A clock that gives the times of a list.
-ghost use Rattle.std.specs.Prelude.{◌≡◌, ◌<◌, ◌+◌, ◌-◌, ◌^◌, ◌==◌, ◌||◌, ◌++◌, ◌∷◌, [], All, IfOk, is_ok, is_err, if◌then◌else◌};
-ghost use Rattle.memory_outside.specs.Moments.{ClockState, time_at, given_of};
+ghost use Rattle.std.specs.Prelude.{◌≡◌, ◌<◌, ◌+◌, ◌-◌, ◌^◌, ◌==◌, ◌||◌, ◌++◌, ◌∷◌, [], All, IfOk, is_ok, is_err};
+ghost use Rattle.memory_outside.specs.Moments.{ClockState, time_at, given_of, is_used_up, clock_after_now};
 ghost use Rattle.memory_outside.specs.Script.{script_of, faults_of, is_listed, Counted};
 
 use crate::script::Script;
@@ -62,11 +62,12 @@ impl Clock for ListClock {
 
     fn now(&mut self) -> Result<u64, ClockFailed>
         ensures moment { IfOk result (λ moment. moment ≡ time_at self.old.times self.old.answers) }
-        ensures given { IfOk result (λ moment. given_of self.new.times self.new.answers ≡ given_of self.old.times self.old.answers ++ moment ∷ []) }
+        ensures given { IfOk result (λ moment. given_of self.new.times self.new.answers
+            ≡ given_of self.old.times self.old.answers ++ moment ∷ []) }
         ensures in_range { IfOk result (λ moment. moment < 253370764800) }
-        ensures clock { self.new ≡ record self.old { answers = if is_ok result then self.old.answers + 1 else self.old.answers; script = self.new.script } }
-        ensures counts { Counted self.old.script (self.old.answers == 2 ^ 64 - 1) result self.new.script }
-        ensures fails { is_err result ≡ (is_listed self.old.script || self.old.answers == 2 ^ 64 - 1) }
+        ensures clock { self.new ≡ clock_after_now self.old (is_ok result) self.new.script }
+        ensures counts { Counted self.old.script (is_used_up self.old) result self.new.script }
+        ensures fails { is_err result ≡ (is_listed self.old.script || is_used_up self.old) }
     {
         if self.script.fails() {
             return Err(ClockFailed);

@@ -1,5 +1,5 @@
 //! A file in memory, and one that is read.
-ghost use Rattle.std.specs.Prelude.{◌≡◌, ◌+◌, ◌++◌, ℕ, length, string_bytes, IfOk, OnOk, OnErr};
+ghost use Rattle.std.specs.Prelude.{◌≡◌, ◌+◌, length, string_bytes, IfOk, OnOk, OnErr};
 ghost use Rattle.link_traits.specs.Contents.{File, OpenFile};
 ghost use Rattle.memory_outside.specs.Memory.{with_bytes, unread, place_after, TakesFront};
 
@@ -83,7 +83,10 @@ impl Model for FileReader {
 
     ghost Value = { OpenFile };
 
-    ghost view = { λ f. record { read = take f.place f.bytes.items; left = drop f.place f.bytes.items } };
+    ghost view = { λ f. record {
+      read = take f.place f.bytes.items;
+      left = drop f.place f.bytes.items;
+    } };
 
     ghost invariant = { λ f. f.place ≤ vec_len f.bytes };
 }

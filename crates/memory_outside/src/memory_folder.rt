@@ -1,12 +1,12 @@
 //! A folder in memory.
-ghost use Rattle.std.specs.Prelude.{◌≡◌, ◌≤◌, ◌<◌, ◌+◌, ◌-◌, ◌++◌, ◌↔◌, [], Some, None, true, false, is_ok, if◌then◌else◌, map, position, IsPermutation, IsSorted, Contains, vec_len, vec_capacity, string_bytes, IfOk, OnOk, OnErr, MatchOption};
+ghost use Rattle.std.specs.Prelude.{◌≡◌, ◌≤◌, ◌<◌, ◌+◌, ◌-◌, ◌++◌, ◌↔◌, Some, None, true, false, is_ok, if◌then◌else◌, position, IsPermutation, IsSorted, vec_len, vec_capacity, string_bytes, IfOk, OnOk, OnErr, MatchOption};
 ghost use Rattle.std.specs.Cmp.Lexicographic.{slice_cmp};
 ghost use Rattle.std.specs.Ordering.{nat_cmp};
 ghost use Rattle.std.specs.List.{list_any, flat_map};
-ghost use Rattle.link_traits.specs.Contents.{File, names, IsListing, AreApart, HaveOwnNames, is_named, bytes_of, has_name};
+ghost use Rattle.link_traits.specs.Contents.{names, IsListing, AreApart, HaveOwnNames, is_named, bytes_of, has_name};
 ghost use Rattle.link_traits.specs.Folder.{without, with_name, files_after_rename};
-ghost use Rattle.memory_outside.specs.Memory.{FolderState, ShelfState, HoldsOwnNames, with_file, new_shelf};
-ghost use Rattle.memory_outside.specs.Script.{script_of, Counts, at_most_count, faults_of, number_of, is_listed, after_call, sum_of_counts, Counted};
+ghost use Rattle.memory_outside.specs.Memory.{FolderState, with_file, new_folder, next_shelf, folder_after_put, folder_after_rename, folder_after_shelf, folder_after_return};
+ghost use Rattle.memory_outside.specs.Script.{faults_of, is_listed, after_call, Counted};
 
 use crate::memory_file::MemoryFile;
 use crate::memory_shelf::{MemoryShelf, file_in, has_name};
@@ -37,9 +37,16 @@ impl Model for MemoryFolder {
 
     ghost Value = { FolderState };
 
-    ghost view = { λ f. record { contents = flat_map (λ part. part.items) f.parts.items; path = f.path; out = f.out; shelves = f.shelves; script = f.script } };
+    ghost view = { λ f. record {
+      contents = flat_map (λ part. part.items) f.parts.items;
+      path = f.path;
+      out = f.out;
+      shelves = f.shelves;
+      script = f.script;
+    } };
 
-    ghost invariant = { λ f. (vec_len f.parts + f.out ≤ vec_capacity f.parts) × HaveOwnNames (flat_map (λ part. part.items) f.parts.items) };
+    ghost invariant = { λ f. (vec_len f.parts + f.out ≤ vec_capacity f.parts)
+        × HaveOwnNames (flat_map (λ part. part.items) f.parts.items) };
 }
 
 impl MemoryFolder {
@@ -48,7 +55,7 @@ impl MemoryFolder {
     /// its i-th shelf, from 1, whose calls are `create`, `append`, `finish`, `open` and `read`. Want of
     /// memory fails a call too. Both are counted, and the count stops at 2^64 - 1. Takes no memory.
     pub fn new(alloc: Global, faults: NumberList) -> MemoryFolder
-        ensures { result ≡ record { contents = []; path = None; out = 0; shelves = 0; script = script_of faults 0 } }
+        ensures { result ≡ new_folder faults }
     {
         MemoryFolder {
             alloc,
@@ -64,7 +71,7 @@ impl MemoryFolder {
     /// condition is that no shelf is out. A refusal, for want of memory, changes nothing.
     pub fn put(&mut self, name: &str, bytes: &[u8]) -> Result<(), OutOfMemory>
         requires { self.old.out ≡ 0 }
-        ensures ok { OnOk result (self.new ≡ record self.old { contents = with_file self.old.contents (record { name = name.now; bytes = bytes.now }) }) }
+        ensures ok { OnOk result (self.new ≡ folder_after_put self.old name.now bytes.now) }
         ensures err { OnErr result (self.new ≡ self.old) }
     {
         let file = MemoryFile::of(self.alloc, name, bytes)?;
@@ -77,7 +84,8 @@ impl MemoryFolder {
 
     /// The bytes of the file of this name, if there is one. Takes no memory.
     pub fn file(&self, name: &str) -> Option<&[u8]>
-        ensures { MatchOption result (bytes_of self.now.contents name.now ≡ None) (λ bytes. bytes_of self.now.contents name.now ≡ Some bytes.now) }
+        ensures { MatchOption result (bytes_of self.now.contents name.now ≡ None)
+            (λ bytes. bytes_of self.now.contents name.now ≡ Some bytes.now) }
     {
         'parts: for part in self.parts.as_slice() {
             if let Some(bytes) = file_in(part.as_slice(), name) {
@@ -117,8 +125,8 @@ impl MemoryFolder {
 
     // A shelf that sees all files, for which room is kept.
     fn begin(&mut self) -> Result<MemoryShelf, OutOfMemory>
-        ensures shelf { IfOk result (λ shelf. shelf ≡ new_shelf self.old.contents (script_of self.old.script.failing (number_of self.new.shelves 0))) }
-        ensures ok { OnOk result (self.new ≡ record self.old { out = self.old.out + 1; shelves = at_most_count (self.old.shelves + 1) }) }
+        ensures shelf { IfOk result (λ shelf. shelf ≡ next_shelf self.old self.new.shelves) }
+        ensures ok { OnOk result (self.new ≡ folder_after_shelf self.old true self.old.script) }
         ensures err { OnErr result (self.new ≡ self.old) }
         ensures own_names { HaveOwnNames self.new.contents }
     {
@@ -134,7 +142,8 @@ impl MemoryFolder {
 
     // Gives a file another name.
     fn change_name(&mut self, from: &str, to: &str) -> Result<(), OutOfMemory>
-        ensures ok { OnOk result (self.new ≡ record self.old { contents = files_after_rename from.now to.now self.old.contents }) }
+        ensures ok { OnOk result (self.new
+            ≡ record self.old { contents = files_after_rename from.now to.now self.old.contents }) }
         ensures err { OnErr result (self.new ≡ self.old) }
         ensures own_names { HaveOwnNames self.new.contents }
     {
@@ -149,7 +158,8 @@ impl MemoryFolder {
 
 // Whether one of the files has the name of one that the shelf has made.
 fn has_any(parts: &[Vec<MemoryFile>], shelf: &MemoryShelf) -> bool
-    ensures { result ≡ list_any (λ part. list_any (λ file. has_name file.name shelf.now.made) part.items) parts.now }
+    ensures { result ≡ list_any (λ part. list_any (λ file. has_name file.name shelf.now.made)
+        part.items) parts.now }
 {
     parts.iter().any(|part| shelf.has_any_of(part.as_slice()))
 }
@@ -181,7 +191,8 @@ fn files_into(
 
 // Takes the file of this name out, if there is one.
 fn take_out(parts: &mut Vec<Vec<MemoryFile>>, name: &str)
-    ensures files { flat_map (λ part. part.items) parts.new.items ≡ without name.now (flat_map (λ part. part.items) parts.old.items) }
+    ensures files { flat_map (λ part. part.items) parts.new.items
+        ≡ without name.now (flat_map (λ part. part.items) parts.old.items) }
     ensures len { vec_len parts.new ≡ vec_len parts.old }
     ensures capacity { vec_capacity parts.new ≡ vec_capacity parts.old }
 {
@@ -201,7 +212,8 @@ fn take_out_of(files: &mut Vec<MemoryFile>, name: &str)
 
 // Puts the file of the one name under the other.
 fn put_under(parts: &mut Vec<Vec<MemoryFile>>, from: &str, to: String)
-    ensures files { flat_map (λ part. part.items) parts.new.items ≡ with_name from.now (string_bytes to) (flat_map (λ part. part.items) parts.old.items) }
+    ensures files { flat_map (λ part. part.items) parts.new.items
+        ≡ with_name from.now (string_bytes to) (flat_map (λ part. part.items) parts.old.items) }
     ensures len { vec_len parts.new ≡ vec_len parts.old }
     ensures capacity { vec_capacity parts.new ≡ vec_capacity parts.old }
 {
@@ -249,7 +261,8 @@ fn put_in(files: &mut Vec<MemoryFile>, file: MemoryFile)
 // Puts a file in the place of the one of its name, in the first part that has it.
 fn put_among(parts: &mut Vec<Vec<MemoryFile>>, part: usize, file: MemoryFile)
     requires { position (λ part. has_name file.name part.items) parts.old.items ≡ Some part }
-    ensures files { flat_map (λ part. part.items) parts.new.items ≡ with_file (flat_map (λ part. part.items) parts.old.items) file }
+    ensures files { flat_map (λ part. part.items) parts.new.items
+        ≡ with_file (flat_map (λ part. part.items) parts.old.items) file }
     ensures len { vec_len parts.new ≡ vec_len parts.old }
     ensures capacity { vec_capacity parts.new ≡ vec_capacity parts.old }
 {
@@ -263,7 +276,8 @@ fn put_after(
     file: MemoryFile,
 ) -> Result<(), OutOfMemory>
     requires { position (λ part. has_name file.name part.items) parts.old.items ≡ None }
-    ensures ok { OnOk result (flat_map (λ part. part.items) parts.new.items ≡ with_file (flat_map (λ part. part.items) parts.old.items) file) }
+    ensures ok { OnOk result (flat_map (λ part. part.items) parts.new.items
+        ≡ with_file (flat_map (λ part. part.items) parts.old.items) file) }
     ensures err { OnErr result (parts.new.items ≡ parts.old.items) }
 {
     let mut last = Vec::new(alloc);
@@ -308,7 +322,8 @@ impl Folder for MemoryFolder {
     ghost own_names = { λ _ own_names. own_names };
 
     fn aim(&mut self, path: &str) -> Result<(), OutOfMemory>
-        ensures { self.new ≡ record self.old { path = if is_ok result then Some path.now else self.old.path } }
+        ensures { self.new
+            ≡ record self.old { path = if is_ok result then Some path.now else self.old.path } }
     {
         let path = Name::of(self.alloc, path)?;
         self.path = Some(path);
@@ -332,7 +347,8 @@ impl Folder for MemoryFolder {
 
     fn rename(&mut self, from: &str, to: &str) -> Result<(), FolderFailed>
         ensures tells { HaveOwnNames self.old.contents ↔ HaveOwnNames self.new.contents }
-        ensures folder { self.new ≡ record self.old { contents = if is_ok result then files_after_rename from.now to.now self.old.contents else self.old.contents; script = self.new.script } }
+        ensures folder { self.new
+            ≡ folder_after_rename self.old (is_ok result) from.now to.now self.new.script }
         ensures counts { Counted self.old.script false result self.new.script }
     {
         if self.script.fails() {
@@ -347,8 +363,8 @@ impl Folder for MemoryFolder {
 
     fn shelf(&mut self) -> Result<MemoryShelf, FolderFailed>
         ensures tells { HaveOwnNames self.old.contents × HaveOwnNames self.new.contents }
-        ensures shelf { IfOk result (λ shelf. shelf ≡ new_shelf self.old.contents (script_of self.old.script.failing (number_of self.new.shelves 0))) }
-        ensures folder { self.new ≡ record self.old { out = if is_ok result then self.old.out + 1 else self.old.out; shelves = if is_ok result then at_most_count (self.old.shelves + 1) else self.old.shelves; script = self.new.script } }
+        ensures shelf { IfOk result (λ shelf. shelf ≡ next_shelf self.old self.new.shelves) }
+        ensures folder { self.new ≡ folder_after_shelf self.old (is_ok result) self.new.script }
         ensures counts { Counted self.old.script false result self.new.script }
     {
         if self.script.fails() {
@@ -365,10 +381,11 @@ impl Folder for MemoryFolder {
 
     fn take_back(&mut self, shelf: MemoryShelf)
         requires out { 0 < self.old.out }
-        requires new_names { HaveOwnNames self.old.contents → AreApart shelf.made self.old.contents }
+        requires new_names { HaveOwnNames self.old.contents →
+            AreApart shelf.made self.old.contents }
 
         ensures tells { HaveOwnNames self.old.contents ↔ HaveOwnNames self.new.contents }
-        ensures folder { self.new ≡ record self.old { contents = self.old.contents ++ shelf.made; out = self.old.out - 1; script = sum_of_counts self.old.script shelf.script } }
+        ensures folder { self.new ≡ folder_after_return self.old shelf }
     {
         let (made, script) = shelf.close();
         self.out -= 1;

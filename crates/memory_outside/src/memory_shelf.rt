@@ -1,9 +1,9 @@
 //! A shelf of a folder in memory.
-ghost use Rattle.std.specs.Prelude.{◌≡◌, ◌<◌, ◌≤◌, ◌+◌, ◌^◌, ◌++◌, ◌∷◌, ◌↔◌, [], Some, None, true, false, length, is_some, is_ok, nat_le, if◌then◌else◌, MatchOption, OnOk, OnErr, IfOk};
+ghost use Rattle.std.specs.Prelude.{◌≡◌, ◌<◌, ◌↔◌, [], Some, None, true, false, length, is_some, is_ok, MatchOption, OnOk, OnErr, IfOk};
 ghost use Rattle.std.specs.List.{list_any};
-ghost use Rattle.link_traits.specs.Contents.{File, HaveOwnNames, has_name, bytes_of};
-ghost use Rattle.memory_outside.specs.Memory.{ShelfState, HoldsOwnNames, TakesFront, begun_of, with_bytes, opened_in, opened_of, place_after, shelf_told, reading_of, new_shelf};
-ghost use Rattle.memory_outside.specs.Script.{Counts, faults_of, Counted};
+ghost use Rattle.link_traits.specs.Contents.{HaveOwnNames, has_name, bytes_of};
+ghost use Rattle.memory_outside.specs.Memory.{ShelfState, HoldsOwnNames, TakesFront, begun_of, with_bytes, opened_in, opened_of, place_after, shelf_told, reading_of, new_shelf, has_no_room_for, reads_to_limit, shelf_after_create, shelf_after_append, shelf_after_finish, shelf_after_open, shelf_after_read};
+ghost use Rattle.memory_outside.specs.Script.{faults_of, Counted};
 
 use crate::memory_file::{FileReader, MemoryFile};
 use crate::script::Script;
@@ -14,7 +14,8 @@ use std::marker::Model;
 
 // The bytes of the first file of this name.
 pub(crate) fn file_in<'a>(files: &'a [MemoryFile], name: &str) -> Option<&'a [u8]>
-    ensures { MatchOption result (bytes_of files.now name.now ≡ None) (λ bytes. bytes_of files.now name.now ≡ Some bytes.now) }
+    ensures { MatchOption result (bytes_of files.now name.now ≡ None)
+        (λ bytes. bytes_of files.now name.now ≡ Some bytes.now) }
 {
     'files: for file in files {
         if file.name() == name {
@@ -61,9 +62,21 @@ impl Model for MemoryShelf {
 
     ghost Value = { ShelfState };
 
-    ghost view = { λ s. record { seen = s.seen.items; opened = s.opened; made = s.made.items; begun = s.begun; script = s.script } };
+    ghost view = { λ s. record {
+      seen = s.seen.items;
+      opened = s.opened;
+      made = s.made.items;
+      begun = s.begun;
+      script = s.script;
+    } };
 
-    ghost invariant = { λ s. HoldsOwnNames (record { seen = s.seen.items; opened = s.opened; made = s.made.items; begun = s.begun; script = s.script }) };
+    ghost invariant = { λ s. HoldsOwnNames (record {
+      seen = s.seen.items;
+      opened = s.opened;
+      made = s.made.items;
+      begun = s.begun;
+      script = s.script;
+    }) };
 }
 
 impl MemoryShelf {
@@ -100,7 +113,8 @@ impl MemoryShelf {
     fn begin(&mut self, name: &str) -> Result<(), OutOfMemory>
         requires none_begun { is_some self.old.begun ≡ false }
         requires new_name { has_name name.now self.old.made ≡ false }
-        ensures ok { OnOk result (self.new ≡ record self.old { begun = Some (record { name = name.now; bytes = [] }) }) }
+        ensures ok { OnOk result (self.new
+            ≡ record self.old { begun = Some (record { name = name.now; bytes = [] }) }) }
         ensures err { OnErr result (self.new ≡ self.old) }
         ensures own_names { HoldsOwnNames self.new }
     {
@@ -122,7 +136,8 @@ impl MemoryShelf {
     // Adds bytes to the begun file.
     fn extend(&mut self, bytes: &[u8]) -> Result<(), OutOfMemory>
         requires { is_some self.old.begun ≡ true }
-        ensures ok { OnOk result (self.new ≡ record self.old { begun = Some (with_bytes (begun_of self.old.begun) bytes.now) }) }
+        ensures ok { OnOk result (self.new
+            ≡ record self.old { begun = Some (with_bytes (begun_of self.old.begun) bytes.now) }) }
         ensures err { OnErr result (self.new ≡ self.old) }
         ensures own_names { HoldsOwnNames self.new }
     {
@@ -135,7 +150,7 @@ impl MemoryShelf {
     // Puts the begun file among those made.
     fn end(&mut self) -> Result<(), OutOfMemory>
         requires { is_some self.old.begun ≡ true }
-        ensures ok { OnOk result (self.new ≡ record self.old { made = self.old.made ++ begun_of self.old.begun ∷ []; begun = None }) }
+        ensures ok { OnOk result (self.new ≡ shelf_after_finish self.old true self.old.script) }
         ensures err { OnErr result (self.new ≡ self.old) }
         ensures own_names { HoldsOwnNames self.new }
     {
@@ -149,7 +164,8 @@ impl MemoryShelf {
     // Opens the file of this name, if there is one.
     fn find(&mut self, name: &str) -> Result<bool, OutOfMemory>
         ensures found { IfOk result (λ found. found ≡ is_some (bytes_of self.old.seen name.now)) }
-        ensures ok { OnOk result (self.new ≡ record self.old { opened = opened_in self.old.seen name.now }) }
+        ensures ok { OnOk result (self.new
+            ≡ record self.old { opened = opened_in self.old.seen name.now }) }
         ensures err { OnErr result (self.new ≡ self.old) }
         ensures own_names { HoldsOwnNames self.new }
     {
@@ -172,7 +188,8 @@ impl MemoryShelf {
     // Copies the next bytes of the open file to the front of the buffer.
     fn take_front(&mut self, buffer: &mut [u8]) -> usize
         requires { is_some self.old.opened ≡ true }
-        ensures front { TakesFront (opened_of self.old.opened) buffer.new result (opened_of self.new.opened) }
+        ensures front { TakesFront (opened_of self.old.opened) buffer.new result
+            (opened_of self.new.opened) }
         ensures len { length buffer.new ≡ length buffer.old }
         ensures opened { is_some self.new.opened ≡ true }
         ensures others { self.new ≡ record self.old { opened = self.new.opened } }
@@ -221,8 +238,10 @@ impl Shelf for MemoryShelf {
         requires none_begun { is_some self.old.begun ≡ false }
 
         ensures tells { HoldsOwnNames self.old ↔ HoldsOwnNames self.new }
-        ensures shelf { self.new ≡ record self.old { begun = if is_ok result then Some (record { name = name.now; bytes = [] }) else None; script = self.new.script } }
-        ensures counts { Counted self.old.script (has_name name.now self.old.made) result self.new.script }
+        ensures shelf { self.new
+            ≡ shelf_after_create self.old (is_ok result) name.now self.new.script }
+        ensures counts { Counted self.old.script (has_name name.now self.old.made) result
+            self.new.script }
     {
         if self.script.fails() {
             return Err(FolderFailed);
@@ -242,8 +261,10 @@ impl Shelf for MemoryShelf {
         requires begun { is_some self.old.begun ≡ true }
 
         ensures tells { HoldsOwnNames self.old ↔ HoldsOwnNames self.new }
-        ensures shelf { self.new ≡ record self.old { begun = if is_ok result then Some (with_bytes (begun_of self.old.begun) bytes.now) else self.old.begun; script = self.new.script } }
-        ensures counts { Counted self.old.script (nat_le (2 ^ 62) (length (begun_of self.old.begun).bytes + length bytes.now)) result self.new.script }
+        ensures shelf { self.new
+            ≡ shelf_after_append self.old (is_ok result) bytes.now self.new.script }
+        ensures counts { Counted self.old.script (has_no_room_for self.old bytes.now) result
+            self.new.script }
     {
         if self.script.fails() {
             return Err(FolderFailed);
@@ -263,7 +284,7 @@ impl Shelf for MemoryShelf {
         requires begun { is_some self.old.begun ≡ true }
 
         ensures tells { HoldsOwnNames self.old ↔ HoldsOwnNames self.new }
-        ensures shelf { self.new ≡ record self.old { made = if is_ok result then self.old.made ++ begun_of self.old.begun ∷ [] else self.old.made; begun = if is_ok result then None else self.old.begun; script = self.new.script } }
+        ensures shelf { self.new ≡ shelf_after_finish self.old (is_ok result) self.new.script }
         ensures counts { Counted self.old.script false result self.new.script }
     {
         if self.script.fails() {
@@ -279,7 +300,8 @@ impl Shelf for MemoryShelf {
     fn open(&mut self, name: &str) -> Result<bool, FolderFailed>
         ensures tells { HoldsOwnNames self.old ↔ HoldsOwnNames self.new }
         ensures found { IfOk result (λ found. found ≡ is_some (bytes_of self.old.seen name.now)) }
-        ensures shelf { self.new ≡ record self.old { opened = if is_ok result then opened_in self.old.seen name.now else self.old.opened; script = self.new.script } }
+        ensures shelf { self.new
+            ≡ shelf_after_open self.old (is_ok result) name.now self.new.script }
         ensures counts { Counted self.old.script false result self.new.script }
     {
         if self.script.fails() {
@@ -299,11 +321,14 @@ impl Shelf for MemoryShelf {
         requires room { 0 < length buffer.old }
 
         ensures tells { HoldsOwnNames self.old ↔ HoldsOwnNames self.new }
-        ensures ok { IfOk result (λ count. TakesFront (opened_of self.old.opened) buffer.new count (opened_of self.new.opened)) }
+        ensures ok { IfOk result (λ count. TakesFront (opened_of self.old.opened) buffer.new count
+            (opened_of self.new.opened)) }
         ensures len { length buffer.new ≡ length buffer.old }
         ensures opened { is_some self.new.opened ≡ true }
-        ensures others { self.new ≡ record self.old { opened = if is_ok result then self.new.opened else self.old.opened; script = self.new.script } }
-        ensures counts { Counted self.old.script (nat_le (2 ^ 62) (place_after (opened_of self.old.opened) (length buffer.old))) result self.new.script }
+        ensures others { self.new
+            ≡ shelf_after_read self.old (is_ok result) self.new.opened self.new.script }
+        ensures counts { Counted self.old.script (reads_to_limit self.old buffer.old) result
+            self.new.script }
     {
         if self.script.fails() {
             return Err(FolderFailed);

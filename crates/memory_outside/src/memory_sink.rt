@@ -52,7 +52,8 @@ impl Sink for MemorySink {
     ghost faults = { λ sink. faults_of sink.script };
 
     fn write(&mut self, bytes: &[u8]) -> Result<(), SinkFailed>
-        ensures written { self.new.written ≡ (if is_ok result then self.old.written ++ bytes.now else self.old.written) }
+        ensures written { self.new.written
+            ≡ (if is_ok result then self.old.written ++ bytes.now else self.old.written) }
         ensures counts { Counted self.old.script false result self.new.script }
     {
         if self.script.fails() {

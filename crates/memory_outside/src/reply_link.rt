@@ -1,8 +1,8 @@
 //! A link with a list of replies.
-ghost use Rattle.std.specs.Prelude.{◌≡◌, ◌≤◌, ◌<◌, ◌+◌, ◌++◌, ◌∷◌, [], take, drop, length, OnOk, OnErr, IfOk, false, min, ◌||◌, is_ok, is_err, if◌then◌else◌};
+ghost use Rattle.std.specs.Prelude.{◌≡◌, ◌≤◌, ◌<◌, ◌+◌, ◌++◌, take, drop, length, OnOk, OnErr, IfOk, false, min, ◌||◌, is_ok, is_err, if◌then◌else◌};
 ghost use Rattle.link_traits.specs.Link.{Receives, IsWithin, told_at_start, told_after_send, first, others};
-ghost use Rattle.memory_outside.specs.Replies.{LinkState, Returned, at_most, has_nothing, told_after_answer};
-ghost use Rattle.memory_outside.specs.Script.{Counts, faults_of, is_listed, Counted};
+ghost use Rattle.memory_outside.specs.Replies.{LinkState, Returned, at_most, has_nothing, link_after_send};
+ghost use Rattle.memory_outside.specs.Script.{faults_of, is_listed, Counted};
 
 use crate::script::Script;
 use link_traits::{Link, LinkFailed};
@@ -54,7 +54,17 @@ impl Model for ReplyLink {
 
     ghost Value = { LinkState };
 
-    ghost view = { λ l. record { told = record { sent = l.sent; waiting = drop l.from l.heard.items; coming = drop l.next l.replies; failed = l.failed }; number = l.number; cut = l.cut; script = l.script } };
+    ghost view = { λ l. record {
+      told = record {
+        sent = l.sent;
+        waiting = drop l.from l.heard.items;
+        coming = drop l.next l.replies;
+        failed = l.failed;
+      };
+      number = l.number;
+      cut = l.cut;
+      script = l.script;
+    } };
 
     ghost invariant = { λ l. l.from ≤ vec_len l.heard };
 }
@@ -90,7 +100,8 @@ impl ReplyLink {
     // Keeps the message, and lets the next bytes wait.
     fn answer(&mut self, message: &[u8]) -> Result<(), OutOfMemory>
         requires { self.old.told.failed ≡ false }
-        ensures ok { OnOk result (self.new ≡ record self.old { told = told_after_send self.old.told message.now }) }
+        ensures ok { OnOk result (self.new
+            ≡ record self.old { told = told_after_send self.old.told message.now }) }
         ensures err { OnErr result (self.new ≡ self.old) }
     {
         let kept = Bytes::of(self.alloc, message)?;
@@ -151,10 +162,8 @@ impl Link for ReplyLink {
     ghost sound = { λ _ honest. absurd honest };
 
     fn send(&mut self, message: &[u8]) -> Result<(), LinkFailed>
-        ensures link { self.new ≡ record self.old {
-          script = self.new.script;
-          told = told_after_answer (is_ok result) self.old.told message.now;
-        } }
+        ensures link { self.new
+            ≡ link_after_send self.old (is_ok result) message.now self.new.script }
         ensures counts { Counted self.old.script self.old.told.failed result self.new.script }
     {
         let listed = self.script.fails();
@@ -175,10 +184,8 @@ impl Link for ReplyLink {
     }
 
     fn send_beside(&mut self, _holder: &ReplyLink, message: &[u8]) -> Result<(), LinkFailed>
-        ensures link { self.new ≡ record self.old {
-          script = self.new.script;
-          told = told_after_answer (is_ok result) self.old.told message.now;
-        } }
+        ensures link { self.new
+            ≡ link_after_send self.old (is_ok result) message.now self.new.script }
         ensures counts { Counted self.old.script self.old.told.failed result self.new.script }
     {
         self.send(message)
@@ -191,8 +198,10 @@ impl Link for ReplyLink {
         ensures received { Receives self.old.told buffer.new result self.new.told }
         ensures count { IfOk result (λ count. count ≡
             at_most self.old.cut (min (length self.old.told.waiting) (length buffer.old))) }
-        ensures link { self.new ≡ record self.old { told = self.new.told; script = self.new.script } }
-        ensures counts { Counted self.old.script (has_nothing self.old.told) result self.new.script }
+        ensures link { self.new
+            ≡ record self.old { told = self.new.told; script = self.new.script } }
+        ensures counts { Counted self.old.script (has_nothing self.old.told) result
+            self.new.script }
         ensures fails { is_err result ≡ (is_listed self.old.script || has_nothing self.old.told) }
     {
         let listed = self.script.fails();

@@ -1,8 +1,8 @@
 //! A site with a list of conversations.
-ghost use Rattle.std.specs.Prelude.{◌≡◌, ◌+◌, ◌-◌, ◌^◌, ◌≤◌, ◌<◌, ◌++◌, ◌∷◌, [], true, false, Some, None, drop, is_ok, if◌then◌else◌, OnOk, OnErr, IfOk, IfSome};
-ghost use Rattle.link_traits.specs.Site.{Aim, SiteTold, next_of};
-ghost use Rattle.memory_outside.specs.Replies.{SiteState, LinkState, Returned, counts_at_connect, has_returned, link_begun, links_after, messages_of, new_site, next_link, site_after_connect, site_after_return, site_told, with_one_more};
-ghost use Rattle.memory_outside.specs.Script.{Counts, Counted, faults_of};
+ghost use Rattle.std.specs.Prelude.{◌≡◌, ◌+◌, ◌-◌, ◌^◌, ◌≤◌, ◌<◌, true, false, Some, None, drop, is_ok, if◌then◌else◌, OnOk, OnErr, IfOk, IfSome};
+ghost use Rattle.link_traits.specs.Site.{Aim, next_of};
+ghost use Rattle.memory_outside.specs.Replies.{SiteState, counts_at_connect, has_returned, link_begun, links_after, messages_of, new_site, next_link, site_after_connect, site_after_return, site_told, with_one_more};
+ghost use Rattle.memory_outside.specs.Script.{Counted, faults_of};
 
 use crate::reply_link::{Conversation, MessageList, ReplyLink, ReturnedLink};
 use crate::script::Script;
@@ -53,7 +53,15 @@ impl Model for ReplySite {
 
     ghost Value = { SiteState };
 
-    ghost view = { λ s. record { conversations = drop s.used s.conversations; returned = s.returned.items; aim = s.target; links = record { out = s.out; sole = s.alone }; next = s.next; cut = s.cut; script = s.script } };
+    ghost view = { λ s. record {
+      conversations = drop s.used s.conversations;
+      returned = s.returned.items;
+      aim = s.target;
+      links = record { out = s.out; sole = s.alone };
+      next = s.next;
+      cut = s.cut;
+      script = s.script;
+    } };
 
     ghost invariant = { λ s. vec_len s.returned + s.out ≤ vec_capacity s.returned };
 }
@@ -122,7 +130,8 @@ impl ReplySite {
     // Takes the next conversation.
     fn next_conversation(&mut self) -> Conversation
         ensures next { result ≡ next_of self.old.conversations }
-        ensures rest { self.new ≡ record self.old { conversations = drop 1 self.old.conversations } }
+        ensures rest { self.new
+            ≡ record self.old { conversations = drop 1 self.old.conversations } }
     {
         let mut taken = MessageList::new(self.alloc);
         if self.used < self.conversations.as_slice().len() {
@@ -136,7 +145,8 @@ impl ReplySite {
     // Makes a link of this number and conversation.
     fn begin(&mut self, number: u64, replies: Conversation) -> Result<ReplyLink, OutOfMemory>
         ensures link { IfOk result (λ link. link ≡ link_begun self.old number replies) }
-        ensures ok { OnOk result (self.new ≡ record self.old { links = with_one_more self.old.links }) }
+        ensures ok { OnOk result (self.new
+            ≡ record self.old { links = with_one_more self.old.links }) }
         ensures err { OnErr result (self.new ≡ self.old) }
     {
         let script = self.script.of(number, 1)?;
@@ -150,8 +160,8 @@ impl ReplySite {
     // Makes the next link.
     fn next_link(&mut self) -> Result<ReplyLink, LinkFailed>
         ensures link { IfOk result (λ link. link ≡ next_link self.old) }
-        ensures site { self.new ≡ site_after_connect self.old
-            (if is_ok result then with_one_more self.old.links else self.old.links) self.new.script }
+        ensures site { self.new ≡ site_after_connect self.old (if is_ok result
+            then with_one_more self.old.links else self.old.links) self.new.script }
         ensures counts { Counted (counts_at_connect self.old) false result self.new.script }
     {
         let number = self.next;
@@ -199,7 +209,8 @@ impl Site for ReplySite {
     ghost settled = { λ _ honest. absurd honest };
 
     fn aim(&mut self, host: &str, port: u16) -> Result<(), OutOfMemory>
-        ensures ok { OnOk result (self.new ≡ record self.old { aim = Some (record { host = host.now; port = port }) }) }
+        ensures ok { OnOk result (self.new
+            ≡ record self.old { aim = Some (record { host = host.now; port = port }) }) }
         ensures err { OnErr result (self.new ≡ self.old) }
     {
         let host = Name::of(self.alloc, host)?;

@@ -23,7 +23,12 @@ impl Model for Script {
 
     ghost Value = { Counts };
 
-    ghost view = { λ s. record { failing = s.failing; call = s.call; listed = s.listed; wanting = s.wanting } };
+    ghost view = { λ s. record {
+      failing = s.failing;
+      call = s.call;
+      listed = s.listed;
+      wanting = s.wanting;
+    } };
 }
 
 impl Script {

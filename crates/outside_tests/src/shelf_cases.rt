@@ -65,12 +65,12 @@ impl ShelfCases {
 
     /// What comes of a call.
     pub fn answer(&mut self, call: &str, words: &str) -> Result<String, OutOfMemory> {
-        match (call, self.is_begun) {
-            ("create", false) => self.create(words),
-            ("append", true) => self.append(words),
-            ("finish", true) => self.finish(),
-            ("open", _) => self.open(words),
-            ("read", _) => self.read(words),
+        match call {
+            "create" => self.create(words),
+            "append" => self.append(words),
+            "finish" => self.finish(),
+            "open" => self.open(words),
+            "read" => self.read(words),
             _ => said(self.alloc, "no call"),
         }
     }

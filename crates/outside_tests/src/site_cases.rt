@@ -1,4 +1,5 @@
 //! Cases of a site in memory, and of the link of it that is out.
+ghost use Rattle.std.specs.Prelude.{◌≡◌, IfOk};
 
 use crate::words::{bytes_of, first_word, numbers_of, or_nothing, said, said_of, spelled};
 use link_traits::{Link, LinkFailed, Site};
@@ -43,8 +44,8 @@ impl SiteCases {
         match call {
             "new" => self.begin(words),
             "aim" => self.aim(words),
-            "connect" => self.connect(),
-            "connect_sole" => self.connect_sole(),
+            "connect" => self.connect(false),
+            "connect_sole" => self.connect(true),
             "give_back" => self.give_back(),
             "sent" => self.sent(words),
             _ => said(self.alloc, "no call"),
@@ -64,13 +65,8 @@ impl SiteCases {
         }
     }
 
-    // Begins a site: the greatest answer of a `recv`, the calls that fail, and the conversations.
     fn begin(&mut self, words: &str) -> Result<String, OutOfMemory> {
-        let (cut, words) = first_word(words);
-        let (faults, talks) = first_word(words);
-        let faults = numbers_of(self.alloc, faults)?;
-        let talks = conversations_of(self.alloc, talks)?;
-        self.site = ReplySite::new(self.alloc, talks, faults, cut.parse().unwrap_or(0));
+        self.site = site_of(self.alloc, words)?;
         self.link = None;
         said(self.alloc, "a site")
     }
@@ -81,30 +77,19 @@ impl SiteCases {
         said(self.alloc, "aimed")
     }
 
-    fn connect(&mut self) -> Result<String, OutOfMemory> {
+    // Makes a link, which is alone or not.
+    fn connect(&mut self, sole: bool) -> Result<String, OutOfMemory> {
         if self.link.is_some() {
             return said(self.alloc, "a link is out");
         }
-        match self.site.connect() {
-            Ok(link) => {
-                self.link = Some(link);
-                said(self.alloc, "a link")
-            }
-            Err(LinkFailed) => said(self.alloc, "failed"),
-        }
-    }
-
-    fn connect_sole(&mut self) -> Result<String, OutOfMemory> {
-        if self.link.is_some() {
-            return said(self.alloc, "a link is out");
-        }
-        match self.site.connect_sole() {
-            Ok(link) => {
-                self.link = Some(link);
-                said(self.alloc, "a link")
-            }
-            Err(LinkFailed) => said(self.alloc, "failed"),
-        }
+        let made = if sole {
+            self.site.connect_sole()
+        } else {
+            self.site.connect()
+        };
+        self.link = made.ok();
+        let is_made = self.link.is_some();
+        said_of(self.alloc, is_made, "a link")
     }
 
     fn give_back(&mut self) -> Result<String, OutOfMemory> {
@@ -124,6 +109,17 @@ impl SiteCases {
             said(self.alloc, "not back")
         }
     }
+}
+
+// A site of these words: the greatest answer of a `recv`, the calls that fail, and the conversations.
+fn site_of(alloc: Global, words: &str) -> Result<ReplySite, OutOfMemory>
+    ensures { IfOk result (λ site. site.links.out ≡ 0) }
+{
+    let (cut, words) = first_word(words);
+    let (faults, talks) = first_word(words);
+    let faults = numbers_of(alloc, faults)?;
+    let talks = conversations_of(alloc, talks)?;
+    Ok(ReplySite::new(alloc, talks, faults, cut.parse().unwrap_or(0)))
 }
 
 fn send(alloc: Global, link: &mut ReplyLink, words: &str) -> Result<String, OutOfMemory> {

@@ -8,21 +8,28 @@ pub record SiteStatus : Type 0 where
   pub links : Links
   pub faults : ℕ
 
+-- a count of failures with one more, as far as it goes
+abbrev pub one_fault_more : ℕ → ℕ
+one_fault_more faults = min (faults + 1) (2 ^ 64 - 1)
+
 -- the site has failed once more
 abbrev pub with_fault : SiteStatus → SiteStatus
-with_fault site = record site { faults = min (site.faults + 1) (2 ^ 64 - 1) }
+with_fault site = record site { faults = one_fault_more site.faults }
 
 -- one link more is out
 abbrev pub one_link_more : Links → Links
 one_link_more links = record links { out = links.out + 1 }
 
--- whether a link has failed, and how often; and where its connection's bytes are known, what it has written and what is
--- still to be received
+-- whether a link has failed, and how often; and where its connection's bytes are known, what it wrote and what is still to be received
 pub record LinkStatus : Type 0 where
   pub failed : Bool
   pub faults : ℕ
   pub written : Option (List ℕ)
   pub unread : Option (List ℕ)
+
+-- a link that hasn't failed, over a connection that has written these bytes and is still to receive those
+abbrev pub new_link : Option (List ℕ) → Option (List ℕ) → LinkStatus
+new_link written unread = record { failed = false; faults = 0; written = written; unread = unread }
 
 -- a folder's path, how many shelves are out, and how often it has failed
 pub record FolderStatus : Type 0 where
@@ -30,8 +37,7 @@ pub record FolderStatus : Type 0 where
   pub out : ℕ
   pub faults : ℕ
 
--- whether a file is begun and how many bytes it has, how many bytes were read of the open file, if one is open, and how often
--- the shelf has failed; and where their bytes are known, what the begun file holds and what is left of the open one
+-- the begun file's size, if one is, how much was read of the open one, and the failures; what these files hold and have left, where that is known
 pub record ShelfStatus : Type 0 where
   pub begun : Bool
   pub size : ℕ
@@ -42,7 +48,14 @@ pub record ShelfStatus : Type 0 where
 
 -- a shelf on which nothing was done yet
 abbrev pub new_shelf : ShelfStatus
-new_shelf = record { begun = false; size = 0; reading = None; faults = 0; written = None; unread = None }
+new_shelf = record {
+  begun = false;
+  size = 0;
+  reading = None;
+  faults = 0;
+  written = None;
+  unread = None;
+}
 
 -- how often a sink has failed, and what its writer holds, where that is known
 pub record SinkStatus : Type 0 where

@@ -1,13 +1,14 @@
 //! A folder that is a directory of the disk.
-ghost use Rattle.std.specs.Prelude.{◌≡◌, ◌≤◌, ◌+◌, ◌-◌, ◌^◌, [], None, false, min, IfOk, IfSome, IsSorted, OnOk};
+ghost use Rattle.std.specs.Prelude.{◌≡◌, ◌≤◌, ◌+◌, ◌-◌, [], None, IfOk, IfSome, IsSorted};
 ghost use Rattle.std.specs.Ordering.{nat_cmp};
 ghost use Rattle.std.specs.Cmp.Lexicographic.{slice_cmp};
 ghost use Rattle.link_traits.specs.Cause.{Rose};
-ghost use Rattle.system_outside.specs.Status.{new_shelf};
+ghost use Rattle.system_outside.specs.Status.{new_shelf, one_fault_more};
 
 use crate::disk_shelf::DiskShelf;
 use link_traits::{Folder, FolderFailed, ListFault};
 use plain_data::{Name, NameList, OutOfMemory};
+use std::alloc::Global;
 use std::fs::{DirBuilder, OpenFile};
 use std::io::ErrorKind;
 use std::marker::Model;
@@ -40,7 +41,11 @@ impl<R> Model for DiskFolder<R> {
 
     ghost Value = { FolderStatus };
 
-    ghost view = { λ f. record { path = option_map string_bytes f.path; out = f.out; faults = f.faults } };
+    ghost view = { λ f. record {
+      path = option_map string_bytes f.path;
+      out = f.out;
+      faults = f.faults;
+    } };
 }
 
 impl<R> DiskFolder<R> {
@@ -65,7 +70,7 @@ impl<R> DiskFolder<R> {
 
     // Counts a failure.
     fn fail(&mut self) -> FolderFailed
-        ensures failed { self.new ≡ record self.old { faults = min (self.old.faults + 1) (2 ^ 64 - 1) } }
+        ensures failed { self.new ≡ record self.old { faults = one_fault_more self.old.faults } }
         ensures later { self.old.faults ≤ self.new.faults }
     {
         self.faults = self.faults.saturating_add(1);
@@ -86,12 +91,22 @@ fn rename_in<R: Files + AllocGlobal>(
     from: &str,
     to: &str,
 ) -> io::Result<()> {
-    let from = format!(in rt.alloc(); "{directory}/{from}")?;
-    let to = format!(in rt.alloc(); "{directory}/{to}")?;
     let entries = fs::open(rt, directory)?;
     entries.sync_all()?;
-    fs::rename(rt, from, to)?;
+    move_in(rt, directory, from, to)?;
     entries.sync_all()
+}
+
+// Gives a file of a directory another name.
+fn move_in<R: Files + AllocGlobal>(
+    rt: &R,
+    directory: &str,
+    from: &str,
+    to: &str,
+) -> io::Result<()> {
+    let from = format!(in rt.alloc(); "{directory}/{from}")?;
+    let to = format!(in rt.alloc(); "{directory}/{to}")?;
+    fs::rename(rt, from, to)
 }
 
 // Makes the directory where it isn't there.
@@ -127,10 +142,16 @@ fn entry_names<R: Files + AllocGlobal + Clone + Drop>(
     let mut names = NameList::new(rt.alloc());
     for entry in fs::read_dir(rt, path).map_err(list_fault)? {
         let entry = entry.map_err(list_fault)?;
-        let name = Name::of(rt.alloc(), entry.file_name()).map_err(|_| ListFault::OutOfMemory)?;
-        names.push(name).map_err(|_| ListFault::OutOfMemory)?;
+        if push_name(rt.alloc(), &mut names, entry.file_name()).is_err() {
+            return Err(ListFault::OutOfMemory);
+        }
     }
     Ok(names)
+}
+
+// Adds a copy of the name.
+fn push_name(alloc: Global, names: &mut NameList, name: &str) -> Result<(), OutOfMemory> {
+    names.push(Name::of(alloc, name)?)
 }
 
 impl<R: Files + AllocGlobal + Clone + Drop> DiskFolder<R> {

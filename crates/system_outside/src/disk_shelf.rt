@@ -1,9 +1,9 @@
 //! A shelf that writes files into a directory, and reads them.
-ghost use Rattle.std.specs.Prelude.{◌≡◌, ◌<◌, ◌≤◌, ◌+◌, ◌-◌, ◌^◌, [], None, Some, length, take, true, false, is_some, min, IfOk, OnOk, OnErr};
+ghost use Rattle.std.specs.Prelude.{◌≡◌, ◌<◌, ◌≤◌, ◌+◌, ◌-◌, ◌^◌, [], None, Some, length, take, true, is_some, IfOk, OnOk};
 ghost use Rattle.std.specs.Io.KnownBytes.{Appends, Consumes, IsAtEnd};
 ghost use Rattle.link_traits.specs.Cause.{HasCause};
-ghost use Rattle.link_traits.specs.Folder.{CountsRead, none_read};
-ghost use Rattle.system_outside.specs.Status.{new_shelf};
+ghost use Rattle.link_traits.specs.Folder.{CountsRead};
+ghost use Rattle.system_outside.specs.Status.{new_shelf, one_fault_more};
 
 use crate::transfer::{read_next, write_front};
 use link_traits::{FolderFailed, Shelf};
@@ -79,7 +79,7 @@ impl<R: Files> DiskShelf<R> {
 
     // Counts a failure.
     fn fail(&mut self) -> FolderFailed
-        ensures failed { self.new ≡ record self.old { faults = min (self.old.faults + 1) (2 ^ 64 - 1) } }
+        ensures failed { self.new ≡ record self.old { faults = one_fault_more self.old.faults } }
         ensures later { self.old.faults ≤ self.new.faults }
     {
         self.faults = self.faults.saturating_add(1);
@@ -123,7 +123,12 @@ fn keep<F: Write + OpenFile>(file: &mut F) -> io::Result<()> {
 impl<R: Files + AllocGlobal + Drop> Shelf for DiskShelf<R> {
     ghost tells = { λ _. ⊥ };
 
-    ghost told = { λ _. record { seen = []; opened = record { read = []; left = [] }; made = []; begun = record { name = []; bytes = [] } } };
+    ghost told = { λ _. record {
+      seen = [];
+      opened = record { read = []; left = [] };
+      made = [];
+      begun = record { name = []; bytes = [] };
+    } };
 
     ghost is_begun = { λ shelf. shelf.begun };
 
@@ -193,7 +198,8 @@ impl<R: Files + AllocGlobal + Drop> Shelf for DiskShelf<R> {
         requires opened { is_some self.old.reading ≡ true }
         requires room { 0 < length buffer.old }
         ensures reading { CountsRead self.old.reading buffer.old result self.new.reading }
-        ensures bytes { IfOk result (λ count. Consumes self.old.unread self.new.unread (take count buffer.new)) }
+        ensures bytes { IfOk result (λ count.
+            Consumes self.old.unread self.new.unread (take count buffer.new)) }
         ensures end { IfOk result (λ count. count ≡ 0 → IsAtEnd self.new.unread) }
         ensures begun { self.new.begun ≡ self.old.begun }
         ensures size { self.new.size ≡ self.old.size }

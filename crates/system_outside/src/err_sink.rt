@@ -50,7 +50,8 @@ impl<W: Write> Sink for ErrSink<W> {
 
     fn write(&mut self, bytes: &[u8]) -> Result<(), SinkFailed>
         ensures ok { OnOk result (Appends self.old.written self.new.written bytes.now) }
-        ensures err { OnErr result ((count : ℕ) × Appends self.old.written self.new.written (take count bytes.now)) }
+        ensures err { OnErr result ((count : ℕ)
+            × Appends self.old.written self.new.written (take count bytes.now)) }
         ensures cause { HasCause self.old.faults self.new.faults result }
     {
         if write_front(&mut self.to, bytes) < bytes.len() {

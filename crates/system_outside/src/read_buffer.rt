@@ -57,7 +57,8 @@ impl ReadBuffer {
     pub(crate) fn refill<R: Read>(&mut self, from: &mut R) -> io::Result<()>
         requires { self.old ≡ [] }
         ensures some { OnOk result (0 < length self.new) }
-        ensures bytes { OnOk result (Consumes (R.remaining from.old) (R.remaining from.new) self.new) }
+        ensures bytes { OnOk result
+            (Consumes (R.remaining from.old) (R.remaining from.new) self.new) }
         ensures err { OnErr result (self.new ≡ []) }
     {
         let count = read_some(from, self.bytes.as_mut_slice())?;

@@ -1,8 +1,9 @@
 //! A link over a TCP connection.
-ghost use Rattle.std.specs.Prelude.{◌≡◌, ◌<◌, ◌≤◌, ◌+◌, ◌-◌, ◌^◌, [], length, take, true, false, min, IfOk, OnOk, OnErr};
+ghost use Rattle.std.specs.Prelude.{◌≡◌, ◌<◌, ◌≤◌, ◌+◌, ◌-◌, [], length, take, true, false, IfOk, OnOk, OnErr};
 ghost use Rattle.std.specs.Io.KnownBytes.{Appends, Consumes};
 ghost use Rattle.link_traits.specs.Cause.{HasCause};
 ghost use Rattle.link_traits.specs.Link.{told_at_start, IsWithin};
+ghost use Rattle.system_outside.specs.Status.{new_link, one_fault_more};
 
 use crate::read_buffer::{READ_SIZE, ReadBuffer};
 use crate::transfer::{read_some, write_front};
@@ -48,7 +49,8 @@ impl<S: Read + Write> TcpLink<S> {
 
     // Counts a failure, after which every call fails.
     fn fail(&mut self) -> LinkFailed
-        ensures failed { self.new ≡ record self.old { failed = true; faults = min (self.old.faults + 1) (2 ^ 64 - 1) } }
+        ensures failed { self.new
+            ≡ record self.old { failed = true; faults = one_fault_more self.old.faults } }
         ensures later { self.old.faults ≤ self.new.faults }
     {
         self.has_failed = true;
@@ -60,7 +62,7 @@ impl<S: Read + Write> TcpLink<S> {
 impl<S: Read + Write + Drop> TcpLink<S> {
     /// A link over this connection. It is refused only for want of memory.
     pub fn new(alloc: Global, stream: S) -> Result<TcpLink<S>, OutOfMemory>
-        ensures { IfOk result (λ made. made ≡ record { failed = false; faults = 0; written = S.contents stream; unread = S.remaining stream }) }
+        ensures { IfOk result (λ made. made ≡ new_link (S.contents stream) (S.remaining stream)) }
     {
         Ok(TcpLink {
             stream,
@@ -123,7 +125,8 @@ impl<S: Read + Write + Drop> Link for TcpLink<S> {
         ensures cause { HasCause self.old.faults self.new.faults result }
         ensures alive { OnOk result ((self.old.failed ≡ false) × (self.new.failed ≡ false)) }
         ensures failed { OnErr result (self.new.failed ≡ true) }
-        ensures received { IfOk result (λ count. Consumes self.old.unread self.new.unread (take count buffer.new)) }
+        ensures received { IfOk result (λ count.
+            Consumes self.old.unread self.new.unread (take count buffer.new)) }
     {
         if self.has_failed {
             return Err(self.fail());

@@ -1,5 +1,5 @@
 //! A server that is reached over TCP.
-ghost use Rattle.std.specs.Prelude.{◌≡◌, ◌≤◌, ◌+◌, ◌-◌, ◌^◌, [], None, false, IfOk, IfSome, OnOk, OnErr};
+ghost use Rattle.std.specs.Prelude.{◌≡◌, ◌≤◌, ◌+◌, ◌-◌, [], None, false, IfOk, IfSome, OnOk, OnErr};
 ghost use Rattle.system_outside.specs.Status.{one_link_more, with_fault};
 
 use crate::tcp_link::TcpLink;
@@ -40,13 +40,18 @@ impl<R> Model for TcpSite<R> {
 
     ghost Value = { SiteStatus };
 
-    ghost view = { λ s. record { aim = s.aim; links = record { out = s.out; sole = s.alone }; faults = s.faults } };
+    ghost view = { λ s. record {
+      aim = s.aim;
+      links = record { out = s.out; sole = s.alone };
+      faults = s.faults;
+    } };
 }
 
 impl<R> TcpSite<R> {
     /// A site that is still to be aimed. Takes no memory.
     pub fn new(rt: R) -> TcpSite<R>
-        ensures { result ≡ record { aim = None; links = record { out = 0; sole = false }; faults = 0 } }
+        ensures { result
+            ≡ record { aim = None; links = record { out = 0; sole = false }; faults = 0 } }
     {
         TcpSite {
             rt,
@@ -88,7 +93,8 @@ impl<R: Net + AllocGlobal> TcpSite<R> {
     // The next link, which is out from now on.
     fn next_link(&mut self) -> Result<TcpLink<R::Stream>, LinkFailed>
         ensures link { IfOk result (λ link. (link.failed ≡ false) × (link.faults ≡ 0)) }
-        ensures out { OnOk result (self.new ≡ record self.old { links = one_link_more self.old.links }) }
+        ensures out { OnOk result (self.new
+            ≡ record self.old { links = one_link_more self.old.links }) }
         ensures same_out { OnErr result (self.new ≡ with_fault self.old) }
         ensures later { self.old.faults ≤ self.new.faults }
     {

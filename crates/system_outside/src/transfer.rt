@@ -28,7 +28,8 @@ pub(crate) fn write_front<W: Write>(to: &mut W, bytes: &[u8]) -> usize
 // One write: how many bytes it took, or 0 where a signal interrupted it. `None` is a failure.
 fn write_once<W: Write>(to: &mut W, bytes: &[u8]) -> Option<usize>
     ensures within { IfSome result (λ count. count ≤ length bytes.now) }
-    ensures written { IfSome result (λ count. Appends (W.contents to.old) (W.contents to.new) (take count bytes.now)) }
+    ensures written { IfSome result (λ count.
+        Appends (W.contents to.old) (W.contents to.new) (take count bytes.now)) }
     ensures none { IfNone result (Keeps (W.contents to.old) (W.contents to.new)) }
 {
     match to.write(bytes) {
@@ -44,8 +45,10 @@ fn write_once<W: Write>(to: &mut W, bytes: &[u8]) -> Option<usize>
 /// reads nothing. Takes no memory.
 pub(crate) fn read_next<R: Read>(from: &mut R, into: &mut [u8]) -> io::Result<usize>
     ensures within { IfOk result (λ count. count ≤ length into.new) }
-    ensures bytes { IfOk result (λ count. Consumes (R.remaining from.old) (R.remaining from.new) (take count into.new)) }
-    ensures end { IfOk result (λ count. count ≡ 0 → 0 < length into.new → IsAtEnd (R.remaining from.new)) }
+    ensures bytes { IfOk result (λ count.
+        Consumes (R.remaining from.old) (R.remaining from.new) (take count into.new)) }
+    ensures end { IfOk result (λ count.
+        count ≡ 0 → 0 < length into.new → IsAtEnd (R.remaining from.new)) }
     ensures err { OnErr result (Keeps (R.remaining from.old) (R.remaining from.new)) }
 {
     for _ in 0..u64::MAX {
@@ -62,7 +65,8 @@ pub(crate) fn read_next<R: Read>(from: &mut R, into: &mut [u8]) -> io::Result<us
 /// there is to read is a failure. What a signal interrupts is tried again. Takes no memory.
 pub(crate) fn read_some<R: Read>(from: &mut R, into: &mut [u8]) -> io::Result<usize>
     ensures within { IfOk result (λ count. IsWithin into.new count) }
-    ensures bytes { IfOk result (λ count. Consumes (R.remaining from.old) (R.remaining from.new) (take count into.new)) }
+    ensures bytes { IfOk result (λ count.
+        Consumes (R.remaining from.old) (R.remaining from.new) (take count into.new)) }
 {
     let count = read_next(from, into)?;
     if count == 0 {
