@@ -32,6 +32,7 @@ pub record Share : Type 0 where
   pub takes : List ℕ → List ℕ → Bool
   pub after : Database
 
+-- from this database on the list changes rows of its tables alone, fits by itself, and then leaves the database that the share says
 pub record IsShareOf (start : Database) (share : Share) : Type 0 where
   pub over : is_over share.takes share.list ≡ true
   pub fits : more_db start share.list ≡ Some share.after
@@ -69,6 +70,7 @@ abbrev pub InterleavingsAgree : Type 0
 InterleavingsAgree = (start : Database) (lists : List (List Transaction)) → All (λ (list : List Transaction). is_over any_table list ≡ true) lists
     → (one other : List Transaction) → Interleaves lists one → Interleaves lists other → (last next : Database) → more_db start one ≡ Some last → more_db start other ≡ Some next → Agree last next
 
+-- the change puts a row into a table
 abbrev pub is_put : Change → Bool
 is_put (Put schema name row) = true
 is_put other = false

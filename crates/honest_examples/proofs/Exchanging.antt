@@ -21,14 +21,15 @@ use Rattle.statement_forms.specs.declared.query.Query.TheVariants.{Schemas}
 use Rattle.statement_forms.specs.declared.statement.Statement.{Statement}
 use Rattle.statement_forms.specs.declared.statement.Statement.TheVariants.{Command as SomeCommand}
 use Rattle.honest_server.specs.Exchange.{BeginsAt, Exchanges, IsLoggingIn, packets_from, Replies, accepted, ignored, query_payload, quits, quit_payload, served, switched, turned_away, unknown}
-use Rattle.honest_server.specs.Moves.{plainly}
+use Rattle.honest_server.specs.Moves.{Way, plainly}
 use Rattle.honest_server.specs.Serve.{Reply, Serves, done, rows, refused}
 use Rattle.honest_server.specs.Spelled.{IsLeanFront, IsLeanSet, Spells}
 use Rattle.honest_server.specs.State.{Phase, Server, State, in_session, with_others}
 use Rattle.honest_examples.specs.Effects.{worked}
 use Rattle.honest_examples.specs.Exchanges.{ACommandIsAnsweredByOneMessage, ACommitIsAnsweredByAnOk, ALoginIsTaken, AnOkEndsAResultSet, AQueryIsAnsweredByItsRows, AQuitIsntAnswered, AreOk, commit, definition, eof, err, ending_ok, logging_in, ok, only, set_before, set_without_eof}
 use Rattle.honest_examples.specs.Worked.{history, schema, server}
-use Rattle.honest_examples.proofs.Reading.{only_commit, read}
+use Rattle.honest_examples.proofs.Reading.{read}
+use Rattle.honest_examples.proofs.Texts.{one_statement}
 use Rattle.honest_examples.proofs.Commanding.{free}
 
 -- a result set is no single message
@@ -179,39 +180,46 @@ record IsOkAlone (messages : List (List ℕ)) : Type 0 where
   says : reply_of message ≡ Some Done
   messages_are : messages ≡ message ∷ []
 
--- a reply to COMMIT that the state allows, and that the messages spell
-pub record IsServedTo (state : State) (messages : List (List ℕ)) (new : State) : Type 0 where
+-- a reply to the statement that the state allows, and that the messages spell
+pub record IsServedTo (way : Way) (statement : Statement) (state : State) (messages : List (List ℕ)) (new : State) : Type 0 where
   pub reply : Reply
-  pub serves : Serves plainly state (SomeCommand Commit) reply new
-  pub spells : Spells state.terms.server (SomeCommand Commit) reply messages
+  pub serves : Serves way state statement reply new
+  pub spells : Spells state.terms.server statement reply messages
 
--- in a session COM_QUERY COMMIT is answered so
-pub of_commit : (state : State) (payload : List ℕ) (messages : List (List ℕ)) (new : State) → state.phase ≡ in_session → payload ≡ query_payload (codes "COMMIT") → Replies plainly state payload messages new → IsServedTo state messages new
-of_commit state payload messages new in_phase is (accepted logging spells new_is) = absurd (subst IsLoggingIn in_phase logging)
-of_commit state payload messages new in_phase is (switched message phase asks lean messages_are new_is) = absurd (cc (sym in_phase ∙ phase))
-of_commit state payload messages new in_phase is (turned_away said logging unwilling spells new_is) = absurd (subst IsLoggingIn in_phase logging)
-of_commit state payload messages new in_phase is (quits phase payload_is messages_are new_is) = absurd (cc (sym is ∙ payload_is))
-of_commit state payload messages new in_phase is (served text statement reply phase payload_is read_as serves spells) = record {
+-- in a session COM_QUERY with a text is answered so
+of_text : (way : Way) (text : List ℕ) (wanted : Statement) → IsReadAs text wanted → (state : State) (payload : List ℕ) (messages : List (List ℕ)) (new : State) → state.phase ≡ in_session → payload ≡ query_payload text → Replies way state payload messages new → IsServedTo way wanted state messages new
+of_text way text wanted is_read state payload messages new in_phase is (accepted logging spells new_is) = absurd (subst IsLoggingIn in_phase logging)
+of_text way text wanted is_read state payload messages new in_phase is (switched message phase asks lean messages_are new_is) = absurd (cc (sym in_phase ∙ phase))
+of_text way text wanted is_read state payload messages new in_phase is (turned_away said logging unwilling spells new_is) = absurd (subst IsLoggingIn in_phase logging)
+of_text way text wanted is_read state payload messages new in_phase is (quits phase payload_is messages_are new_is) = absurd (cc (sym is ∙ payload_is))
+of_text way text wanted is_read state payload messages new in_phase is (served other statement reply phase payload_is read_as serves spells) = record {
   reply = reply;
-  serves = subst (λ (statement : Statement). Serves plainly state statement reply new) statement_is serves;
+  serves = subst (λ (statement : Statement). Serves way state statement reply new) statement_is serves;
   spells = subst (λ (statement : Statement). Spells state.terms.server statement reply messages) statement_is spells;
 }
   where
-    text_is : text ≡ codes "COMMIT"
+    text_is : other ≡ text
     text_is = ap (λ (bytes : List ℕ). drop 1 bytes) (sym payload_is ∙ is)
 
-    statement_is : statement ≡ SomeCommand Commit
-    statement_is = only_commit statement (subst (λ (text : List ℕ). IsReadAs text statement) text_is read_as)
-of_commit state payload messages new in_phase is (unknown said more phase nothing gives spells) = absurd (nothing.no_statement (codes "COMMIT") (SomeCommand Commit) is read.text_of)
-of_commit state payload messages new in_phase is (ignored phase messages_are new_is) = absurd (cc (sym in_phase ∙ phase))
+    statement_is : statement ≡ wanted
+    statement_is = one_statement text wanted statement is_read (subst (λ (text : List ℕ). IsReadAs text statement) text_is read_as)
+of_text way text wanted is_read state payload messages new in_phase is (unknown said more phase nothing gives spells) = absurd (nothing.no_statement text wanted is is_read.text_of)
+of_text way text wanted is_read state payload messages new in_phase is (ignored phase messages_are new_is) = absurd (cc (sym in_phase ∙ phase))
 
--- the message is COM_QUERY COMMIT and nothing else
-pub payload_of : (payload : List ℕ) (id : ℕ) → id ≡ 0 → commit ≡ packets id payload → payload ≡ query_payload (codes "COMMIT")
+-- a message of COM_QUERY with a text has no other payload
+pub payload_of : (text message payload : List ℕ) (id : ℕ) → message ≡ packets 0 (query_payload text) → id ≡ 0 → message ≡ packets id payload → payload ≡ query_payload text
+payload_of text message payload id spelled begins is = sym (same_packets 0 (query_payload text) payload [] [] (ap (λ (bytes : List ℕ). bytes ++ []) (sym spelled ∙ (is ∙ ap (λ (id : ℕ). packets id payload) begins)))).0
+
+pub of_message : (way : Way) (text message : List ℕ) (wanted : Statement) → IsReadAs text wanted → message ≡ packets 0 (query_payload text) → (state : State) (reply : List ℕ) (new : State) → (exchanges : Exchanges way state message reply new) → state.phase ≡ in_session → IsServedTo way wanted state exchanges.messages new
+of_message way text message wanted is_read spelled state reply new exchanges in_phase =
+    of_text way text wanted is_read state exchanges.payload exchanges.messages new in_phase (payload_of text message exchanges.payload exchanges.is_message.id spelled (subst (λ (phase : Phase). BeginsAt phase exchanges.is_message.id) in_phase exchanges.is_message.begins) exchanges.is_message.message_is) exchanges.replies
+
+pub commit_is : commit ≡ packets 0 (query_payload (codes "COMMIT"))
 unfolding packets
-payload_of payload id begins is = sym (same_packets 0 (query_payload (codes "COMMIT")) payload [] [] (ap (λ (bytes : List ℕ). bytes ++ []) (is ∙ ap (λ (id : ℕ). packets id payload) begins))).0
+commit_is = refl
 
-pub of_message : (state : State) (reply : List ℕ) (new : State) → (exchanges : Exchanges plainly state commit reply new) → state.phase ≡ in_session → IsServedTo state exchanges.messages new
-of_message state reply new exchanges in_phase = of_commit state exchanges.payload exchanges.messages new in_phase (payload_of exchanges.payload exchanges.is_message.id (subst (λ (phase : Phase). BeginsAt phase exchanges.is_message.id) in_phase exchanges.is_message.begins) exchanges.is_message.message_is) exchanges.replies
+pub of_commit : (state : State) (reply : List ℕ) (new : State) → (exchanges : Exchanges plainly state commit reply new) → state.phase ≡ in_session → IsServedTo plainly (SomeCommand Commit) state exchanges.messages new
+of_commit state reply new exchanges in_phase = of_message plainly (codes "COMMIT") commit (SomeCommand Commit) read commit_is state reply new exchanges in_phase
 
 -- where no transaction is open, that is an OK
 by_reply : (reply : Reply) (messages : List (List ℕ)) (new : State) → Serves plainly worked (SomeCommand Commit) reply new → Spells server (SomeCommand Commit) reply messages → IsOkAlone messages × (new ≡ worked)
@@ -243,11 +251,11 @@ commits = record {
     nothing_else : (reply : List ℕ) (new : State) → Exchanges plainly worked commit reply new → AreOk 1 reply × (new ≡ worked)
     nothing_else reply new exchanges = (record { message = answer.0.message; says = answer.0.says; bytes_are = bytes_are }, answer.1)
       where
-        told : IsServedTo worked exchanges.messages new
-        told = of_message worked reply new exchanges refl
+        told : IsServedTo plainly (SomeCommand Commit) worked exchanges.messages new
+        told = of_commit worked reply new exchanges refl
 
         payload : exchanges.payload ≡ query_payload (codes "COMMIT")
-        payload = payload_of exchanges.payload exchanges.is_message.id exchanges.is_message.begins exchanges.is_message.message_is
+        payload = payload_of (codes "COMMIT") commit exchanges.payload exchanges.is_message.id commit_is exchanges.is_message.begins exchanges.is_message.message_is
 
         answer : IsOkAlone exchanges.messages × (new ≡ worked)
         answer = by_reply told.reply exchanges.messages new told.serves told.spells

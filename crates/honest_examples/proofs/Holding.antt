@@ -1,28 +1,24 @@
 -- What becomes of a snapshot that is taken beside a holder of the read lock.
-use Rattle.std.proofs.Common.{◌≡◌, ◌<◌, ℕ, List, [], ◌∷◌, ◌++◌, Some, refl, ap, sym, ◌∙◌, subst, arith, codes, length, length-append, drop, ◌⊎◌, inl, inr}
+use Rattle.std.proofs.Common.{◌≡◌, ◌<◌, ℕ, List, [], ◌∷◌, ◌++◌, Some, refl, ap, sym, ◌∙◌, subst, arith, codes, length, length-append, ◌⊎◌, inl, inr}
 use Rattle.std.proofs.lemmas.Bool.{false≢true}
-use Rattle.grammar.specs.Language.{Fixed, Then}
 use Rattle.wire_forms.specs.Packet.{packets}
-use Rattle.my_packets.proofs.Fronts.{same_packets}
 use Rattle.object_forms.specs.Head.{HasHead}
 use Rattle.object_forms.specs.Token.{tokens}
 use Rattle.server_data.specs.Fold.{change_db, has_object, may_make}
 use Rattle.server_data.specs.declared.data.Transaction.{Transaction}
 use Rattle.sql_cells.specs.declared.cell.Cell.{Cell}
 use Rattle.sql_cells.specs.declared.cell.Cell.TheVariants.{Null}
-use Rattle.statement_forms.specs.Insert.{AnyInsert}
 use Rattle.statement_forms.specs.Statement.{CommandHasText, IsReadAs, IsTextOf, command_row, row_of}
-use Rattle.statement_forms.specs.Text.{command_text, query_text}
+use Rattle.statement_forms.specs.Text.{command_text}
 use Rattle.statement_forms.specs.declared.command.Command.{Command}
 use Rattle.statement_forms.specs.declared.command.Command.TheVariants.{Commit, Create, CreateProgress, CreateProgressDump, CreateProgressFiles, Insert, InsertProgressDump, InsertProgressFile, Rollback, Start, StartSnapshot, Use}
-use Rattle.statement_forms.specs.declared.query.Query.{Query}
 use Rattle.statement_forms.specs.declared.statement.Statement.{Statement}
 use Rattle.statement_forms.specs.declared.statement.Statement.TheVariants.{Command as SomeCommand, Query as SomeQuery}
-use Rattle.honest_server.specs.Exchange.{BeginsAt, CommitsAlone, Exchanges, IsLoggingIn, Replies, accepted, ignored, query_payload, quits, served, switched, turned_away, unknown}
-use Rattle.honest_server.specs.Moves.{Way, beside}
+use Rattle.honest_server.specs.Exchange.{CommitsAlone, Exchanges, query_payload, served}
+use Rattle.honest_server.specs.Moves.{beside}
 use Rattle.honest_server.specs.Serve.{IsHandled, Reply, Serves, done, rows, refused}
 use Rattle.honest_server.specs.Spelled.{Spells}
-use Rattle.honest_server.specs.State.{Phase, State, in_session, with_own}
+use Rattle.honest_server.specs.State.{State, in_session, with_own}
 use Rattle.honest_server.specs.WellFormed.{IsSound}
 use Rattle.honest_examples.specs.Exchanges.{ok}
 use Rattle.honest_examples.specs.Links.{ok_packet}
@@ -30,9 +26,9 @@ use Rattle.honest_examples.specs.Sends.{ASnapshotShowsWhatTheHolderHasSeen, Noth
 use Rattle.honest_examples.specs.Sites.{a_holds, b_sees, one_of_two, puts_five, puts_three}
 use Rattle.honest_examples.specs.Worked.{database, history, one, put, row, server, two}
 use Rattle.honest_examples.proofs.Changes.{keeps_nothing, keeps_row, keeps_three}
-use Rattle.honest_examples.proofs.Exchanging.{one_message}
-use Rattle.honest_examples.proofs.Sending.{first, query_second, second}
+use Rattle.honest_examples.proofs.Exchanging.{IsServedTo, of_message, one_message}
 use Rattle.honest_examples.proofs.Soundness.{good_marks_with, sound_with}
+use Rattle.honest_examples.proofs.Texts.{first, insert_first, no_query, third}
 use Rattle.honest_examples.proofs.Worked.{stands}
 use Rattle.plain_data.proofs.Options.{same_some}
 
@@ -44,18 +40,9 @@ text = codes "START TRANSACTION WITH CONSISTENT SNAPSHOT"
 abbrev snapshot : Statement
 snapshot = SomeCommand StartSnapshot
 
-no_query : (query : Query) → text ≡ query_text query → (second (query_text query) ≡ 69) ⊎ (second (query_text query) ≡ 72) → ⊥
-unfolding second
-no_query query is (inl selects) = omega (arith, ap second is, selects)
-no_query query is (inr shows) = omega (arith, ap second is, shows)
-
 makes_nothing : HasHead text → ⊥
 unfolding HasHead tokens
 makes_nothing head = cc (head.1)
-
-inserts_nothing : (other : List ℕ) → text ≡ other → AnyInsert other → ⊥
-unfolding AnyInsert Then Fixed first
-inserts_nothing other is insert = let begins : text ≡ codes "INSERT INTO " ++ insert.1 = is ∙ (insert.2 ∙ ap (λ (front : List ℕ). front ++ insert.1) insert.3) in omega (arith, ap first begins)
 
 of_command : (command : Command) → CommandHasText command → text ≡ command_text command → (command_row command < 15) ⊎ (SomeCommand command ≡ snapshot)
 unfolding command_text first
@@ -68,59 +55,23 @@ of_command (Create other) has is = absurd (makes_nothing (subst HasHead (sym is)
 of_command CreateProgress has is = absurd (omega (arith, ap first is))
 of_command CreateProgressFiles has is = absurd (omega (arith, ap first is))
 of_command CreateProgressDump has is = absurd (omega (arith, ap first is))
-of_command (Insert other) has is = absurd (inserts_nothing other is has)
+of_command (Insert other) has is = absurd (omega (arith, ap first is, insert_first other has))
 of_command (InsertProgressFile name) has is = absurd (omega (arith, ap first is))
 of_command (InsertProgressDump digest) has is = absurd (omega (arith, ap first is))
 of_command command has is = inl (omega arith)
 
 latest : (other : Statement) → IsTextOf other text → (row_of other < 15) ⊎ (other ≡ snapshot)
+unfolding third
 latest (SomeCommand command) is = of_command command is.0 is.1
-latest (SomeQuery query) is = absurd (no_query query is.2 (query_second query))
+latest (SomeQuery query) is = absurd (no_query text query is.2 refl)
 
 read : IsReadAs text snapshot
 unfolding command_text
 read = record { text_of = (tt, refl); latest = latest }
 
-only_snapshot : (statement : Statement) → IsReadAs text statement → statement ≡ snapshot
-only_snapshot statement reads = by_rows (latest statement reads.text_of) (reads.latest snapshot read.text_of)
-  where
-    by_rows : (row_of statement < 15) ⊎ (statement ≡ snapshot) → (15 < row_of statement) ⊎ (snapshot ≡ statement) → statement ≡ snapshot
-    by_rows (inr same) other = same
-    by_rows (inl below) (inr same) = sym same
-    by_rows (inl below) (inl above) = absurd (omega arith)
-
--- a reply to it that the state allows, and that the messages spell
-record IsServedTo (way : Way) (state : State) (messages : List (List ℕ)) (new : State) : Type 0 where
-  reply : Reply
-  serves : Serves way state snapshot reply new
-  spells : Spells state.terms.server snapshot reply messages
-
--- in a session it is answered so
-of_snapshot : (way : Way) (state : State) (payload : List ℕ) (messages : List (List ℕ)) (new : State) → state.phase ≡ in_session → payload ≡ query_payload text → Replies way state payload messages new → IsServedTo way state messages new
-of_snapshot way state payload messages new in_phase is (accepted logging spells new_is) = absurd (subst IsLoggingIn in_phase logging)
-of_snapshot way state payload messages new in_phase is (switched message phase asks lean messages_are new_is) = absurd (cc (sym in_phase ∙ phase))
-of_snapshot way state payload messages new in_phase is (turned_away said logging unwilling spells new_is) = absurd (subst IsLoggingIn in_phase logging)
-of_snapshot way state payload messages new in_phase is (quits phase payload_is messages_are new_is) = absurd (cc (sym is ∙ payload_is))
-of_snapshot way state payload messages new in_phase is (served other statement reply phase payload_is read_as serves spells) = record {
-  reply = reply;
-  serves = subst (λ (statement : Statement). Serves way state statement reply new) statement_is serves;
-  spells = subst (λ (statement : Statement). Spells state.terms.server statement reply messages) statement_is spells;
-}
-  where
-    text_is : other ≡ text
-    text_is = ap (λ (bytes : List ℕ). drop 1 bytes) (sym payload_is ∙ is)
-
-    statement_is : statement ≡ snapshot
-    statement_is = only_snapshot statement (subst (λ (text : List ℕ). IsReadAs text statement) text_is read_as)
-of_snapshot way state payload messages new in_phase is (unknown said more phase nothing gives spells) = absurd (nothing.no_statement text snapshot is read.text_of)
-of_snapshot way state payload messages new in_phase is (ignored phase messages_are new_is) = absurd (cc (sym in_phase ∙ phase))
-
-payload_of : (payload : List ℕ) (id : ℕ) → id ≡ 0 → start_snapshot ≡ packets id payload → payload ≡ query_payload text
+of_snapshot : (state : State) (reply : List ℕ) (new : State) → (exchanges : Exchanges (beside a_holds) state start_snapshot reply new) → state.phase ≡ in_session → IsServedTo (beside a_holds) snapshot state exchanges.messages new
 unfolding packets
-payload_of payload id begins is = sym (same_packets 0 (query_payload text) payload [] [] (ap (λ (bytes : List ℕ). bytes ++ []) (is ∙ ap (λ (id : ℕ). packets id payload) begins))).0
-
-of_message : (way : Way) (state : State) (reply : List ℕ) (new : State) → (exchanges : Exchanges way state start_snapshot reply new) → state.phase ≡ in_session → IsServedTo way state exchanges.messages new
-of_message way state reply new exchanges in_phase = of_snapshot way state exchanges.payload exchanges.messages new in_phase (payload_of exchanges.payload exchanges.is_message.id (subst (λ (phase : Phase). BeginsAt phase exchanges.is_message.id) in_phase exchanges.is_message.begins) exchanges.is_message.message_is) exchanges.replies
+of_snapshot state reply new exchanges in_phase = of_message (beside a_holds) text start_snapshot snapshot read refl state reply new exchanges in_phase
 
 -- B's snapshot beside A
 
@@ -156,7 +107,7 @@ shown = record {
 }
   where
     of_new : (new : State) (reply : List ℕ) → Exchanges (beside a_holds) one_of_two start_snapshot reply new → new.view ≡ Some a_holds.seen
-    of_new new reply exchanges = let told = of_message (beside a_holds) one_of_two reply new exchanges refl in shows told.reply exchanges.messages new told.serves told.spells
+    of_new new reply exchanges = let told = of_snapshot one_of_two reply new exchanges refl in shows told.reply exchanges.messages new told.serves told.spells
 
 -- B's open transaction
 
@@ -208,6 +159,6 @@ kept = record {
 }
   where
     of_left : (new : State) → ((reply : List ℕ) × Exchanges (beside a_holds) b_opened start_snapshot reply new) ⊎ (⊥ ⊎ (new ≡ b_opened)) → new.mine ≡ []
-    of_left new (inl exchange) = let told = of_message (beside a_holds) b_opened exchange.0 new exchange.1 refl in none_of_own told.reply exchange.1.messages new told.serves told.spells
+    of_left new (inl exchange) = let told = of_snapshot b_opened exchange.0 new exchange.1 refl in none_of_own told.reply exchange.1.messages new told.serves told.spells
     of_left new (inr (inl nothing)) = absurd nothing
     of_left new (inr (inr same)) = ap (λ (state : State). state.mine) same

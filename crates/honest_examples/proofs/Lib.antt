@@ -7,6 +7,7 @@ pub mod Changes
 pub mod Inserting
 pub mod Commanding
 pub mod Rises
+pub mod Texts
 pub mod Reading
 pub mod Exchanging
 pub mod Returning

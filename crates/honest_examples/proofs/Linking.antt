@@ -24,7 +24,7 @@ use Rattle.honest_examples.specs.Exchanges.{commit, ok}
 use Rattle.honest_examples.specs.Links.{AFailureLosesNothingByHalves, ALinkHasSeenItsOwn, ALinkHoldsItsOwn, ASnapshotShowsAFront, BytesAreReceived, TheAnswerWaits, WideKeysAreToldUntilTheyArent, ok_packet}
 use Rattle.honest_examples.specs.Worked.{history, marked, no_rows, one, position, put, server, three, two, unmarked}
 use Rattle.honest_examples.proofs.Commanding.{commits as served_commits}
-use Rattle.honest_examples.proofs.Exchanging.{commits, of_message, one_message}
+use Rattle.honest_examples.proofs.Exchanging.{commits, of_commit, one_message}
 use Rattle.honest_examples.proofs.Reading.{read}
 use Rattle.honest_examples.proofs.Returning.{two_empty}
 use Rattle.honest_examples.proofs.Soundness.{all_of_one, good_marks_with, sound, sound_empty, sound_with_three}
@@ -69,7 +69,7 @@ failure = record {
 }
   where
     never : ((reply : List ℕ) × Exchanges plainly opened commit reply lost) ⊎ (CommitsAlone opened commit lost ⊎ (lost ≡ opened)) → ⊥
-    never (inl exchange) = let told = of_message opened exchange.0 lost exchange.1 refl in not_served told.reply exchange.1.messages told.serves told.spells
+    never (inl exchange) = let told = of_commit opened exchange.0 lost exchange.1 refl in not_served told.reply exchange.1.messages told.serves told.spells
     never (inr (inl alone)) = kept lost refl refl alone.more alone.ended
     never (inr (inr same)) = absurd (cc (ap (λ (state : State). state.pending) same))
 

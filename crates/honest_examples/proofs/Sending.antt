@@ -1,20 +1,15 @@
 -- What becomes of a message that is sent.
-use Rattle.std.proofs.Common.{◌≡◌, ◌<◌, ℕ, false, List, [], ◌∷◌, ◌++◌, Some, None, refl, ap, sym, ◌∙◌, subst, arith, codes, length, drop, ◌⊎◌, inl, inr}
+use Rattle.std.proofs.Common.{◌≡◌, ◌<◌, ℕ, false, List, [], ◌∷◌, Some, None, refl, ap, sym, ◌∙◌, subst, arith, codes, length, drop, ◌⊎◌, inl, inr}
 use Rattle.std.proofs.lemmas.Bool.{false≢true}
-use Rattle.grammar.specs.Language.{Fixed, Then}
 use Rattle.wire_forms.specs.Packet.{packets}
-use Rattle.my_packets.proofs.Fronts.{same_packets}
 use Rattle.my_packets.proofs.Packets.{last_packets, packets_length}
 use Rattle.object_forms.specs.Head.{HasHead}
 use Rattle.object_forms.specs.Token.{tokens}
 use Rattle.sql_cells.specs.declared.cell.Cell.{Cell}
-use Rattle.statement_forms.specs.Insert.{AnyInsert}
 use Rattle.statement_forms.specs.Statement.{CommandHasText, IsReadAs, IsTextOf, command_row, row_of}
-use Rattle.statement_forms.specs.Text.{command_text, query_text}
+use Rattle.statement_forms.specs.Text.{command_text}
 use Rattle.statement_forms.specs.declared.command.Command.{Command}
 use Rattle.statement_forms.specs.declared.command.Command.TheVariants.{Commit, Create, CreateProgress, CreateProgressDump, CreateProgressFiles, Insert, InsertProgressDump, InsertProgressFile, Rollback, Start, StartSnapshot, Use}
-use Rattle.statement_forms.specs.declared.query.Query.{Query}
-use Rattle.statement_forms.specs.declared.query.Query.TheVariants.{MasterStatus, BinaryLogStatus, CreateDatabase, CreateTable, CreateView, CreateProcedure, CreateFunction, CreateTrigger, CreateEvent}
 use Rattle.statement_forms.specs.declared.statement.Statement.{Statement}
 use Rattle.statement_forms.specs.declared.statement.Statement.TheVariants.{Command as SomeCommand, Query as SomeQuery}
 use Rattle.honest_server.specs.Effect.{EndsTransaction}
@@ -30,50 +25,20 @@ use Rattle.honest_examples.specs.Links.{ok_packet}
 use Rattle.honest_examples.specs.Sends.{ACommitMakesNothing, AFailedLinkSendsNothing, AMessageIsSent, ATransactionIsCommittedAlone, rollback}
 use Rattle.honest_examples.specs.Worked.{history, put, schema, server, table_text, three, unmarked}
 use Rattle.honest_examples.proofs.Commanding.{commits, free, may_follow}
-use Rattle.honest_examples.proofs.Exchanging.{of_message}
+use Rattle.honest_examples.proofs.Exchanging.{of_commit, payload_of}
 use Rattle.honest_examples.proofs.Linking.{committed}
 use Rattle.honest_examples.proofs.Reading.{no_head}
 use Rattle.honest_examples.proofs.Soundness.{sound_with_three}
+use Rattle.honest_examples.proofs.Texts.{first, insert_first, no_query, third}
 
 -- START TRANSACTION is read as the command, and as nothing else
 
 abbrev started : List ℕ
 started = codes "START TRANSACTION"
 
-unfoldable pub first : List ℕ → ℕ
-first [] = 0
-first (byte ∷ bytes) = byte
-
-unfoldable pub second : List ℕ → ℕ
-second (byte ∷ next ∷ bytes) = next
-second bytes = 0
-
--- every query begins with SE or SH
-pub query_second : (query : Query) → (second (query_text query) ≡ 69) ⊎ (second (query_text query) ≡ 72)
-unfolding query_text second
-query_second MasterStatus = inr refl
-query_second BinaryLogStatus = inr refl
-query_second (CreateDatabase in_schema) = inr refl
-query_second (CreateTable in_schema name) = inr refl
-query_second (CreateView in_schema name) = inr refl
-query_second (CreateProcedure in_schema name) = inr refl
-query_second (CreateFunction in_schema name) = inr refl
-query_second (CreateTrigger in_schema name) = inr refl
-query_second (CreateEvent in_schema name) = inr refl
-query_second query = inl refl
-
-no_query : (query : Query) → started ≡ query_text query → (second (query_text query) ≡ 69) ⊎ (second (query_text query) ≡ 72) → ⊥
-unfolding second
-no_query query is (inl selects) = omega (arith, ap second is, selects)
-no_query query is (inr shows) = omega (arith, ap second is, shows)
-
 makes_nothing : HasHead started → ⊥
 unfolding HasHead tokens
 makes_nothing head = cc (head.1)
-
-inserts_nothing : (other : List ℕ) → started ≡ other → AnyInsert other → ⊥
-unfolding AnyInsert Then Fixed first
-inserts_nothing other is insert = let begins : started ≡ codes "INSERT INTO " ++ insert.1 = is ∙ (insert.2 ∙ ap (λ (front : List ℕ). front ++ insert.1) insert.3) in omega (arith, ap first begins)
 
 of_command : (command : Command) → CommandHasText command → started ≡ command_text command → (command_row command < 16) ⊎ (SomeCommand command ≡ SomeCommand Start)
 unfolding command_text first
@@ -85,14 +50,15 @@ of_command (Create other) has is = absurd (makes_nothing (subst HasHead (sym is)
 of_command CreateProgress has is = absurd (omega (arith, ap first is))
 of_command CreateProgressFiles has is = absurd (omega (arith, ap first is))
 of_command CreateProgressDump has is = absurd (omega (arith, ap first is))
-of_command (Insert other) has is = absurd (inserts_nothing other is has)
+of_command (Insert other) has is = absurd (omega (arith, ap first is, insert_first other has))
 of_command (InsertProgressFile name) has is = absurd (omega (arith, ap first is))
 of_command (InsertProgressDump digest) has is = absurd (omega (arith, ap first is))
 of_command command has is = inl (omega arith)
 
 latest : (other : Statement) → IsTextOf other started → (row_of other < 16) ⊎ (other ≡ SomeCommand Start)
+unfolding third
 latest (SomeCommand command) is = of_command command is.0 is.1
-latest (SomeQuery query) is = absurd (no_query query is.2 (query_second query))
+latest (SomeQuery query) is = absurd (no_query started query is.2 refl)
 
 read_start : IsReadAs started (SomeCommand Start)
 unfolding command_text
@@ -117,7 +83,7 @@ no_commit command ends has is = ends
 
 text_of_rollback : (text : List ℕ) (id : ℕ) → id ≡ 0 → rollback ≡ packets id (query_payload text) → codes "ROLLBACK" ≡ text
 unfolding packets
-text_of_rollback text id begins is = ap (λ (bytes : List ℕ). drop 1 bytes) (same_packets 0 (query_payload (codes "ROLLBACK")) (query_payload text) [] [] (ap (λ (bytes : List ℕ). bytes ++ []) (is ∙ ap (λ (id : ℕ). packets id (query_payload text)) begins))).0
+text_of_rollback text id begins is = sym (ap (λ (bytes : List ℕ). drop 1 bytes) (payload_of (codes "ROLLBACK") rollback (query_payload text) id refl begins is))
 
 pub alone : ATransactionIsCommittedAlone
 unfolding packets
@@ -150,7 +116,7 @@ sent = record {
   allowed = record { ok = (refl, record { reply = ok_packet; exchanges = committed; waits = refl; alive = refl; wide = λ told. told }); err = tt; dead = λ failed. absurd (false≢true failed) };
   handled = record { ok = tt; err = λ alive. record { failed = refl; wide = λ told. told; left = inl (ok_packet, committed) }; dead = λ failed. absurd (false≢true failed) };
   not_handled = record { ok = tt; err = λ alive. record { failed = refl; wide = λ told. told; left = inr (inr refl) }; dead = λ failed. absurd (false≢true failed) };
-  refused = λ waiting sends. let told = of_message opened sends.ok.1.reply opened sends.ok.1.exchanges refl in not_moved told.reply sends.ok.1.exchanges.messages told.serves told.spells;
+  refused = λ waiting sends. let told = of_commit opened sends.ok.1.reply opened sends.ok.1.exchanges refl in not_moved told.reply sends.ok.1.exchanges.messages told.serves told.spells;
 }
 
 pub sends_nothing : AFailedLinkSendsNothing

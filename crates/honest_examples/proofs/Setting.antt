@@ -97,19 +97,19 @@ lone made = record {
   same = refl;
 }
 
-follows : (more : List Transaction) → MayFollow (with_settings settings) more
-follows more = record { frozen = λ p. absurd (false≢true p); guarded = λ p. absurd (false≢true p); catalogue = λ p q. absurd (true≢false q) }
+pub follows : (made : Settings) (more : List Transaction) → MayFollow (with_settings made) more
+follows made more = record { frozen = λ p. absurd (false≢true p); guarded = λ p. absurd (false≢true p); catalogue = λ p q. absurd (true≢false q) }
 
 -- what a transaction's last changes are, and the object that they make
-abbrev last : List Transaction → List Change
+abbrev pub last : List Transaction → List Change
 last (one ∷ others) = one.changes
 last [] = []
 
-abbrev settings_of : List Change → Option Settings
+abbrev pub settings_of : List Change → Option Settings
 settings_of (Make object ∷ changes) = object.settings
 settings_of changes = None
 
-abbrev kind_of : List Change → Kind
+abbrev pub kind_of : List Change → Kind
 kind_of (Make object ∷ changes) = object.kind
 kind_of changes = View
 
@@ -124,9 +124,9 @@ next_object = record {
   client = serves_done (with_settings (record settings { client = [] })) (SomeCommand (CharacterSetClient (codes "utf8mb4"))) (with_settings settings) (lone (record settings { client = [] })) refl;
   collation = serves_done (with_settings (record settings { collation = [] })) (SomeCommand (CollationConnection (codes "utf8mb4_bin"))) (with_settings settings) (lone (record settings { collation = [] })) refl;
   of_procedure = serves_done (with_settings settings) (SomeCommand (Create procedure_text)) (making the_procedure) (lone settings)
-      (record { middle = with_settings settings; ended = refl; database = alone; stands = stands_alone; object = the_procedure; made = made_procedure; commits = record { one = unmarked (Make the_procedure ∷ []); changes_are = refl; follows = follows (unmarked (Make the_procedure ∷ []) ∷ []); sound = sound_procedure; new_is = refl } });
+      (record { middle = with_settings settings; ended = refl; database = alone; stands = stands_alone; object = the_procedure; made = made_procedure; commits = record { one = unmarked (Make the_procedure ∷ []); changes_are = refl; follows = follows settings (unmarked (Make the_procedure ∷ []) ∷ []); sound = sound_procedure; new_is = refl } });
   of_view = serves_done (with_settings settings) (SomeCommand (Create view_text)) (making the_view) (lone settings)
-      (record { middle = with_settings settings; ended = refl; database = alone; stands = stands_alone; object = the_view; made = made_view; commits = record { one = unmarked (Make the_view ∷ []); changes_are = refl; follows = follows (unmarked (Make the_view ∷ []) ∷ []); sound = sound_view; new_is = refl } });
+      (record { middle = with_settings settings; ended = refl; database = alone; stands = stands_alone; object = the_view; made = made_view; commits = record { one = unmarked (Make the_view ∷ []); changes_are = refl; follows = follows settings (unmarked (Make the_view ∷ []) ∷ []); sound = sound_view; new_is = refl } });
   cleared = serves_done (with_settings settings) (SomeCommand (Use schema)) (with_settings no_settings) (lone settings) (record { database = alone; stands = stands_alone; is_there = refl; new_is = refl });
   refused = never;
 }

@@ -6,14 +6,11 @@ use Rattle.std.proofs.lemmas.Bool.{false≢true, true≢false}
 use Rattle.std.proofs.lemmas.List.{append_cancel_left}
 use Rattle.std.proofs.lemmas.List.Elements.{All-nil}
 use Rattle.std.specs.Str.{chars, is_utf8}
-use Rattle.grammar.specs.Language.{Fixed, Then}
 use Rattle.object_forms.specs.Head.{HasHead}
 use Rattle.object_forms.specs.Token.{tokens}
 use Rattle.object_forms.specs.declared.kind.Kind.{Kind}
-use Rattle.object_forms.specs.declared.kind.Kind.TheVariants.{View}
 use Rattle.server_data.specs.Bag.{count_of}
 use Rattle.server_data.specs.Fold.{change_db, db, has_object, may_drop, may_make}
-use Rattle.server_data.specs.declared.data.Change.{Change}
 use Rattle.server_data.specs.declared.data.Change.TheVariants.{Make}
 use Rattle.server_data.specs.declared.data.Database.{Database}
 use Rattle.server_data.specs.declared.data.Settings.{Settings}
@@ -24,18 +21,16 @@ use Rattle.sql_cells.specs.declared.cell.Cell.{Cell}
 use Rattle.sql_cells.specs.declared.cell.Cell.TheVariants.{Null, Value}
 use Rattle.sql_literals.proofs.ReadBacks.{inside_of}
 use Rattle.sql_literals.proofs.Units.{escaped_back}
-use Rattle.statement_forms.specs.Insert.{AnyInsert}
 use Rattle.statement_forms.specs.Statement.{CommandHasText, IsTextOf, command_row, row_of}
-use Rattle.statement_forms.specs.Text.{command_text, query_text}
+use Rattle.statement_forms.specs.Text.{command_text}
 use Rattle.statement_forms.specs.declared.command.Command.{Command}
 use Rattle.statement_forms.specs.declared.command.Command.TheVariants.{Commit, Create, CreateProgress, CreateProgressDump, CreateProgressFiles, FlushTables, Insert, InsertProgressDump, InsertProgressFile, LockInstance, Rollback, Start, StartSnapshot, TimeZone, TimeZoneUtc, UnlockInstance, UnlockTables, Use}
-use Rattle.statement_forms.specs.declared.query.Query.{Query}
-use Rattle.statement_forms.specs.declared.query.Query.TheVariants.{MasterStatus, BinaryLogStatus, CreateDatabase, CreateEvent, CreateFunction, CreateProcedure, CreateTable, CreateTrigger, CreateView}
+use Rattle.statement_forms.specs.declared.query.Query.TheVariants.{CreateEvent}
 use Rattle.statement_forms.specs.declared.statement.Statement.{Statement}
 use Rattle.statement_forms.specs.declared.statement.Statement.TheVariants.{Command as SomeCommand, Query as SomeQuery}
 use Rattle.honest_server.specs.Answer.{Answers}
 use Rattle.honest_server.specs.Effect.{IsMade, made_settings}
-use Rattle.honest_server.specs.Moves.{MayFollow, plainly}
+use Rattle.honest_server.specs.Moves.{plainly}
 use Rattle.honest_server.specs.Serve.{Serves, done}
 use Rattle.honest_server.specs.State.{State, no_settings}
 use Rattle.honest_server.specs.WellFormed.{HasItsHead, IsSound, IsWellFormedObject, is_name}
@@ -45,8 +40,9 @@ use Rattle.honest_examples.specs.Worked.{schema, server, the_schema, unmarked}
 use Rattle.honest_examples.proofs.Bags.{same_rows}
 use Rattle.honest_examples.proofs.Commanding.{free}
 use Rattle.honest_examples.proofs.Serving.{serves_done, serves_rows}
-use Rattle.honest_examples.proofs.Setting.{alone, beside_schema, good_marks, lone, sound_procedure, well_formed}
+use Rattle.honest_examples.proofs.Setting.{alone, beside_schema, follows, good_marks, kind_of, last, lone, settings_of, sound_procedure, well_formed}
 use Rattle.honest_examples.proofs.Soundness.{printed_in}
+use Rattle.honest_examples.proofs.Texts.{first, insert_first, no_query, third}
 use Rattle.honest_examples.proofs.Worked.{schema_named, stands_alone}
 use Rattle.plain_data.proofs.Options.{same_some}
 
@@ -79,22 +75,7 @@ made_procedure : IsMade (with_settings (in_zone system)) alone procedure_text th
 unfolding tokens
 made_procedure = record { text_is = refl; found = _; is_making = refl; kind = refl; name = refl; schema = refl; settings = refl; shape = record { columns = refl; key = refl }; place = record { rank = refl; needs = refl } }
 
-follows : (more : List Transaction) → MayFollow (with_settings (in_zone system)) more
-follows more = record { frozen = λ p. absurd (false≢true p); guarded = λ p. absurd (false≢true p); catalogue = λ p q. absurd (true≢false q) }
-
 -- the time zone of the object that a transaction makes
-
-abbrev last : List Transaction → List Change
-last (one ∷ others) = one.changes
-last [] = []
-
-abbrev settings_of : List Change → Option Settings
-settings_of (Make object ∷ changes) = object.settings
-settings_of changes = None
-
-abbrev kind_of : List Change → Kind
-kind_of (Make object ∷ changes) = object.kind
-kind_of changes = View
 
 abbrev zone_of : Option Settings → List ℕ
 zone_of None = []
@@ -105,9 +86,9 @@ unfolding has_object
 in_a_zone = record {
   set = serves_done (with_settings settings) (SomeCommand (TimeZone system)) (with_settings (in_zone system)) (lone settings) refl;
   allowed = serves_done (with_settings (in_zone system)) (SomeCommand (Create event_text)) (making the_event) (lone (in_zone system))
-      (record { middle = with_settings (in_zone system); ended = refl; database = alone; stands = stands_alone; object = the_event; made = is_made; commits = record { one = unmarked (Make the_event ∷ []); changes_are = refl; follows = follows (unmarked (Make the_event ∷ []) ∷ []); sound = sound_event; new_is = refl } });
+      (record { middle = with_settings (in_zone system); ended = refl; database = alone; stands = stands_alone; object = the_event; made = is_made; commits = record { one = unmarked (Make the_event ∷ []); changes_are = refl; follows = follows (in_zone system) (unmarked (Make the_event ∷ []) ∷ []); sound = sound_event; new_is = refl } });
   of_procedure = serves_done (with_settings (in_zone system)) (SomeCommand (Create procedure_text)) (making the_procedure) (lone (in_zone system))
-      (record { middle = with_settings (in_zone system); ended = refl; database = alone; stands = stands_alone; object = the_procedure; made = made_procedure; commits = record { one = unmarked (Make the_procedure ∷ []); changes_are = refl; follows = follows (unmarked (Make the_procedure ∷ []) ∷ []); sound = sound_procedure; new_is = refl } });
+      (record { middle = with_settings (in_zone system); ended = refl; database = alone; stands = stands_alone; object = the_procedure; made = made_procedure; commits = record { one = unmarked (Make the_procedure ∷ []); changes_are = refl; follows = follows (in_zone system) (unmarked (Make the_procedure ∷ []) ∷ []); sound = sound_procedure; new_is = refl } });
   cleared = serves_done (with_settings (in_zone system)) (SomeCommand (Use schema)) (with_settings no_settings) (lone (in_zone system)) (record { database = alone; stands = stands_alone; is_there = refl; new_is = refl });
   refused = never;
 }
@@ -123,44 +104,9 @@ in_a_zone = record {
 
 -- SET TIME_ZONE='+00:00' is read as the later of two statements
 
-unfoldable first : List ℕ → ℕ
-first [] = 0
-first (byte ∷ bytes) = byte
-
-unfoldable second : List ℕ → ℕ
-second (byte ∷ next ∷ bytes) = next
-second bytes = 0
-
-unfoldable third : List ℕ → ℕ
-third (byte ∷ next ∷ after ∷ bytes) = after
-third bytes = 0
-
--- every query begins with SEL or SHO
-query_third : (query : Query) → (third (query_text query) ≡ 76) ⊎ (third (query_text query) ≡ 79)
-unfolding query_text third
-query_third MasterStatus = inr refl
-query_third BinaryLogStatus = inr refl
-query_third (CreateDatabase in_schema) = inr refl
-query_third (CreateTable in_schema name) = inr refl
-query_third (CreateView in_schema name) = inr refl
-query_third (CreateProcedure in_schema name) = inr refl
-query_third (CreateFunction in_schema name) = inr refl
-query_third (CreateTrigger in_schema name) = inr refl
-query_third (CreateEvent in_schema name) = inr refl
-query_third query = inl refl
-
-no_query : (query : Query) → utc ≡ query_text query → (third (query_text query) ≡ 76) ⊎ (third (query_text query) ≡ 79) → ⊥
-unfolding third
-no_query query is (inl selects) = omega (arith, ap third is, selects)
-no_query query is (inr shows) = omega (arith, ap third is, shows)
-
 makes_nothing : HasHead utc → ⊥
 unfolding HasHead tokens
 makes_nothing head = cc (head.1)
-
-inserts_nothing : (other : List ℕ) → utc ≡ other → AnyInsert other → ⊥
-unfolding AnyInsert Then Fixed first
-inserts_nothing other is insert = let begins : utc ≡ codes "INSERT INTO " ++ insert.1 = is ∙ (insert.2 ∙ ap (λ (front : List ℕ). front ++ insert.1) insert.3) in omega (arith, ap first begins)
 
 -- what stands between the quotes of a text's literal
 literal_back : (value : List ℕ) → text_value (inside 1 1 (text_literal value)) ≡ value
@@ -173,14 +119,14 @@ abbrev second_statement : Statement
 second_statement = SomeCommand (TimeZone (codes "+00:00"))
 
 of_command : (command : Command) → CommandHasText command → utc ≡ command_text command → (command_row command < 10) ⊎ (SomeCommand command ≡ second_statement)
-unfolding command_text first second
+unfolding command_text first third
 of_command (TimeZone value) has is = inr (ap (λ (value : List ℕ). SomeCommand (TimeZone value)) (zone_is value is))
 of_command LockInstance has is = absurd (omega (arith, ap first is))
 of_command FlushTables has is = absurd (omega (arith, ap first is))
 of_command UnlockTables has is = absurd (omega (arith, ap first is))
 of_command UnlockInstance has is = absurd (omega (arith, ap first is))
-of_command StartSnapshot has is = absurd (omega (arith, ap second is))
-of_command Start has is = absurd (omega (arith, ap second is))
+of_command StartSnapshot has is = absurd (omega (arith, ap third is))
+of_command Start has is = absurd (omega (arith, ap third is))
 of_command Commit has is = absurd (omega (arith, ap first is))
 of_command Rollback has is = absurd (omega (arith, ap first is))
 of_command (Use in_schema) has is = absurd (omega (arith, ap first is))
@@ -188,14 +134,15 @@ of_command (Create other) has is = absurd (makes_nothing (subst HasHead (sym is)
 of_command CreateProgress has is = absurd (omega (arith, ap first is))
 of_command CreateProgressFiles has is = absurd (omega (arith, ap first is))
 of_command CreateProgressDump has is = absurd (omega (arith, ap first is))
-of_command (Insert other) has is = absurd (inserts_nothing other is has)
+of_command (Insert other) has is = absurd (omega (arith, ap first is, insert_first other has))
 of_command (InsertProgressFile name) has is = absurd (omega (arith, ap first is))
 of_command (InsertProgressDump digest) has is = absurd (omega (arith, ap first is))
 of_command command has is = inl (omega arith)
 
 latest : (other : Statement) → IsTextOf other utc → (row_of other < 10) ⊎ (other ≡ second_statement)
+unfolding third
 latest (SomeCommand command) is = of_command command is.0 is.1
-latest (SomeQuery query) is = absurd (no_query query is.2 (query_third query))
+latest (SomeQuery query) is = absurd (no_query utc query is.2 refl)
 
 pub utc_text : TheTextOfUtcIsOfTwoStatements
 unfolding command_text

@@ -36,7 +36,7 @@ use Rattle.honest_server.specs.State.{State, no_settings, with_others, with_own}
 use Rattle.honest_server.specs.WellFormed.{HasGoodMark, HasItsHead, HasKeys, IsNamed, IsSound, IsWellFormed, IsWellFormedObject, NeedsItsTable, is_name}
 use Rattle.honest_examples.specs.Effects.{insert, link}
 use Rattle.honest_examples.specs.Triggers.{ATriggerIsMadeOnItsTable, ATriggerIsTold, ATriggerMayPutMore, the_trigger, trigger, trigger_text, two_rows, with_trigger}
-use Rattle.honest_examples.specs.Worked.{a, no_rows, of_table, one, put, schema, schema_alone, server, table, the_schema, the_table, three, unmarked, with_rows}
+use Rattle.honest_examples.specs.Worked.{a, no_rows, one, put, row_of_table, schema, schema_alone, server, table, the_schema, the_table, three, unmarked, with_rows}
 use Rattle.honest_examples.proofs.Bags.{same_rows}
 use Rattle.honest_examples.proofs.Commanding.{free, may_follow}
 use Rattle.honest_examples.proofs.Inserting.{IsOneRow, IsTheTable, body_of, in_schema, inserts_there, one_row, only_table, spelled_row, spells_three, text_of}
@@ -61,7 +61,7 @@ needs = record { found = _; is_found = refl; schema = tt; own = refl; name = ref
 
 -- the schema, the table and the trigger, with these rows
 abbrev with_all : List (List Cell) → Database
-with_all found = record { objects = the_schema ∷ the_table ∷ the_trigger ∷ []; rows = map of_table found }
+with_all found = record { objects = the_schema ∷ the_table ∷ the_trigger ∷ []; rows = map (row_of_table the_table) found }
 
 all_rows : (found : List (List Cell)) → rows_of (with_all found) schema table ≡ found
 unfolding rows_of

@@ -28,22 +28,27 @@ numbered = codes "n"
 abbrev pub text_with : List ℕ → List ℕ
 text_with after = codes "CREATE TABLE `n` (`id` int NOT NULL AUTO_INCREMENT, PRIMARY KEY (`id`)) ENGINE=InnoDB" ++ after
 
+-- the table, as it stands in a database, with this after the engine
 abbrev pub with_counter : List ℕ → Object
 with_counter after = record { kind = Table; schema = schema; name = numbered; text = text_with after; settings = None; columns = id ∷ []; key = Some 0; rank = 0; needs = [] }
 
+-- the option that says that the counter stands at 5
 abbrev pub five : List ℕ
 five = codes " AUTO_INCREMENT=5"
 
+-- the option that says that the counter stands at 7
 abbrev pub seven : List ℕ
 seven = codes " AUTO_INCREMENT=7"
 
--- the row of this number, and that it is put
+-- the row of this number
 abbrev pub of_number : List ℕ → List Cell
 of_number digits = Value digits ∷ []
 
+-- the row of this number is put into the table
 abbrev pub put_number : List ℕ → Change
 put_number digits = Put schema numbered (of_number digits)
 
+-- the table with the row of this number alone
 abbrev pub row_of_number : List ℕ → TableRows
 row_of_number digits = record { table = record { schema = schema; name = numbered }; rows = of_number digits ∷ [] }
 
@@ -86,6 +91,7 @@ counting_link = link counting (Some schema)
 abbrev pub insert_number : List ℕ → Statement
 insert_number digits = SomeCommand (Insert (codes "INSERT INTO `n` (`id`) VALUES\n(" ++ digits ++ codes ")"))
 
+-- the option that says that the counter stands at 6
 abbrev pub six : List ℕ
 six = codes " AUTO_INCREMENT=6"
 

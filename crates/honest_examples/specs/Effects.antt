@@ -61,10 +61,11 @@ pub record AnInsertIsCommittedAtOnce : Type 0 where
   pub allowed : IsServed worked (insert (codes "(3,'c')")) done (with_three worked)
   pub refused : IsRefused worked (insert (codes "(1,'b')"))
 
--- a transaction is open, and has put the row (3,'c'); or the link holds the read lock
+-- a transaction is open, and has put the row (3,'c')
 abbrev pub opened : State
 opened = record worked { pending = Some (put three ∷ []) }
 
+-- the same link while it holds the read lock
 abbrev pub frozen : State → State
 frozen state = record state { frozen = true }
 
@@ -93,6 +94,7 @@ pub record ATableIsMadeInTheCurrentSchema : Type 0 where
   pub refused : IsRefused (link schema_alone None) (SomeCommand (Create table_text))
   pub there : IsRefused (link no_rows (Some schema)) (SomeCommand (Create table_text))
 
+-- the same link while it holds the backup lock
 abbrev pub guarded : State → State
 guarded state = record state { guarded = true }
 

@@ -24,19 +24,23 @@ use Rattle.honest_examples.specs.Effects.{IsServed, link}
 use Rattle.honest_examples.specs.Routines.{procedure_text, the_procedure, with_settings}
 use Rattle.honest_examples.specs.Worked.{schema, schema_alone, server, the_schema, unmarked}
 
+-- the text that makes the event
 abbrev pub event_text : List ℕ
 event_text = codes "CREATE EVENT `e` ON SCHEDULE EVERY 1 DAY DO SELECT 1"
 
+-- the name of the event
 abbrev pub event : List ℕ
 event = codes "e"
 
--- the settings of a session, and the same in the server's own time zone
+-- the settings of a session in which no time zone was set
 abbrev pub settings : Settings
 settings = record { sql_mode = codes "ANSI"; client = codes "utf8mb4"; collation = codes "utf8mb4_bin"; zone = [] }
 
+-- the same settings with this time zone
 abbrev pub in_zone : List ℕ → Settings
 in_zone zone = record settings { zone = zone }
 
+-- the time zone SYSTEM, which is the server's own
 abbrev pub system : List ℕ
 system = codes "SYSTEM"
 
@@ -44,6 +48,7 @@ system = codes "SYSTEM"
 abbrev pub made_under : Settings → Object
 made_under made = record { kind = Event; schema = schema; name = event; text = event_text; settings = Some made; columns = []; key = None; rank = 0; needs = [] }
 
+-- the event that is made in the server's own time zone
 abbrev pub the_event : Object
 the_event = made_under (in_zone system)
 
@@ -59,6 +64,7 @@ pub record AnEventIsMadeInATimeZone : Type 0 where
   pub cleared : IsServed (with_settings (in_zone system)) (SomeCommand (Use schema)) done (with_settings no_settings)
   pub refused : Serves plainly (with_settings (in_zone system)) (SomeCommand (Create event_text)) done (making (made_under settings)) → ⊥
 
+-- the text that sets the time zone of UTC
 abbrev pub utc : List ℕ
 utc = codes "SET TIME_ZONE='+00:00'"
 
@@ -80,13 +86,15 @@ pub record EventsAreListed : Type 0 where
   pub elsewhere : Answers with_event (Events no_table) []
   pub refused : Answers with_event (Events schema) [] → ⊥
 
--- a link after the event, to a server that is willing or isn't
+-- a history in which the schema is made, and then the event
 abbrev pub after_event : List Transaction
 after_event = schema_alone ++ unmarked (Make the_event ∷ []) ∷ []
 
+-- a link in a session with a willing server, after the event was made
 abbrev pub reading : State
 reading = link after_event (Some schema)
 
+-- such a link to a server that answers ERR as it likes
 abbrev pub unwilling : State
 unwilling = record reading { terms = record reading.terms { server = record server { willing = false } } }
 

@@ -29,16 +29,19 @@ ok = 0 ∷ 0 ∷ 0 ∷ 2 ∷ 0 ∷ 0 ∷ 0 ∷ []
 abbrev pub err : List ℕ
 err = 255 ∷ 81 ∷ 4 ∷ 35 ∷ codes "HY000no"
 
+-- what this ERR says
 abbrev pub refusal : Refusal
 refusal = record { code = 1105; state = codes "HY000"; message = kept_text (codes "no") }
 
--- a result set of one column and one row: the number of columns, a definition, an EOF, the row (s), and what ends it
+-- the definition of the only column of a result set, SCHEMA_NAME
 abbrev pub definition : List ℕ
 definition = 3 ∷ codes "def" ++ (0 ∷ 0 ∷ 0 ∷ 11 ∷ codes "SCHEMA_NAME" ++ (0 ∷ 12 ∷ 45 ∷ 0 ∷ 0 ∷ 1 ∷ 0 ∷ 0 ∷ 253 ∷ 1 ∷ 0 ∷ 0 ∷ 0 ∷ 0 ∷ []))
 
+-- an EOF packet without warnings
 abbrev pub eof : List ℕ
 eof = 254 ∷ 0 ∷ 0 ∷ 2 ∷ 0 ∷ []
 
+-- a result set of one column and one row: the number of columns, its definition, an EOF, the row (s), and what ends it
 abbrev pub set_before : List ℕ → List (List ℕ)
 set_before last = (1 ∷ []) ∷ definition ∷ eof ∷ (1 ∷ codes "s") ∷ last ∷ []
 
@@ -60,10 +63,11 @@ pub record AQueryIsAnsweredByItsRows : Type 0 where
   pub other_rows : Spells server (SomeQuery Schemas) (rows (only (codes "ss"))) (set_before eof) → ⊥
   pub refused : (found : List (List Cell)) → Spells server (SomeQuery Schemas) (rows found) (ok ∷ []) → ⊥
 
--- a server whose result sets end by an OK with the header fe, and such an OK
+-- a server whose result sets end by an OK with the header fe
 abbrev pub ending_by_ok : Server
 ending_by_ok = record server { ends = Ok }
 
+-- an OK with the header fe, without a text
 abbrev pub ending_ok : List ℕ
 ending_ok = 254 ∷ 0 ∷ 0 ∷ 2 ∷ 0 ∷ 0 ∷ 0 ∷ []
 

@@ -1,12 +1,11 @@
 -- A table with a column of JSON, and how INSERTs spell its cells.
-use Rattle.std.specs.Prelude.{ℕ, List, [], ◌∷◌, ◌++◌, Some, None, codes, map, false}
+use Rattle.std.specs.Prelude.{ℕ, List, [], ◌∷◌, ◌++◌, Some, None, codes, false}
 use Rattle.object_forms.specs.declared.kind.Kind.TheVariants.{Table}
 use Rattle.object_forms.specs.declared.shape.Column.{Column}
 use Rattle.server_data.specs.declared.data.Change.{Change}
 use Rattle.server_data.specs.declared.data.Change.TheVariants.{Make, Put}
 use Rattle.server_data.specs.declared.data.Database.{Database}
 use Rattle.server_data.specs.declared.data.Object.{Object}
-use Rattle.server_data.specs.declared.data.TableRows.{TableRows}
 use Rattle.server_data.specs.declared.data.Transaction.{Transaction}
 use Rattle.sql_cells.specs.declared.cell.Cell.{Cell}
 use Rattle.sql_cells.specs.declared.cell.Cell.TheVariants.{Null, Value}
@@ -17,17 +16,21 @@ use Rattle.honest_server.specs.Serve.{done}
 use Rattle.honest_server.specs.State.{State, with_own}
 use Rattle.honest_server.specs.WellFormed.{IsSound}
 use Rattle.honest_examples.specs.Effects.{IsRefused, IsServed, insert, link, with_three, worked}
-use Rattle.honest_examples.specs.Worked.{id, printed, schema, schema_alone, server, the_schema, unmarked}
+use Rattle.honest_examples.specs.Worked.{id, printed, schema, schema_alone, server, table_with, unmarked}
 
+-- the name of the table
 abbrev pub table : List ℕ
 table = codes "j"
 
+-- the text that makes it: a key, and a column of JSON
 abbrev pub table_text : List ℕ
 table_text = codes "CREATE TABLE `j` (`id` int NOT NULL, `d` json, PRIMARY KEY (`id`)) ENGINE=InnoDB"
 
+-- the column of JSON
 abbrev pub document : Column
 document = record { name = codes "d"; data_type = codes "json"; unsigned = false; generated = false }
 
+-- the table, as it stands in a database
 abbrev pub the_table : Object
 the_table = record { kind = Table; schema = schema; name = table; text = table_text; settings = None; columns = id ∷ document ∷ []; key = Some 0; rank = 0; needs = [] }
 
@@ -35,26 +38,27 @@ the_table = record { kind = Table; schema = schema; name = table; text = table_t
 abbrev pub unprinted : List ℕ
 unprinted = codes "[1,2]"
 
--- the row of the key 1 with this cell, and that it is put
+-- the row of the key 1 with this cell in the column of JSON
 abbrev pub row : Cell → List Cell
 row cell = Value (codes "1") ∷ cell ∷ []
 
+-- such a row is put into the table
 abbrev pub puts : Cell → List Change
 puts cell = Put schema table (row cell) ∷ []
 
--- the schema and the table, and then this row too
+-- a history in which the schema is made, and then the table
 abbrev pub empty : List Transaction
 empty = schema_alone ++ unmarked (Make the_table ∷ []) ∷ []
 
+-- then a row with this cell is put into it
 abbrev pub holding : Cell → List Transaction
 holding cell = empty ++ unmarked (puts cell) ∷ []
 
-abbrev pub of_table : List Cell → TableRows
-of_table cells = record { table = record { schema = schema; name = table }; rows = cells ∷ [] }
-
+-- the schema and the table, with these rows
 abbrev pub with_rows : List (List Cell) → Database
-with_rows rows = record { objects = the_schema ∷ the_table ∷ []; rows = map of_table rows }
+with_rows = table_with the_table
 
+-- a link in a session, which has seen the empty table
 abbrev pub json_link : State
 json_link = link empty (Some schema)
 

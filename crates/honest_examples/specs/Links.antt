@@ -8,10 +8,11 @@ use Rattle.honest_examples.specs.Effects.{opened, viewing, with_three, worked}
 use Rattle.honest_examples.specs.Exchanges.{commit, ok}
 use Rattle.honest_examples.specs.Worked.{history, no_rows, put, server, three, unmarked}
 
--- on the link nothing waits, and it hasn't failed; or it has
+-- a link on which nothing waits, and which hasn't failed
 abbrev pub alive : State → ServedLink
 alive state = record { waiting = []; state = state; failed = false; keeps_wide = true }
 
+-- a link on which nothing waits, and which has failed
 abbrev pub broken : State → ServedLink
 broken state = record { waiting = []; state = state; failed = true; keeps_wide = true }
 

@@ -21,13 +21,15 @@ response id = 1 ∷ 0 ∷ 0 ∷ id ∷ 0 ∷ []
 abbrev pub request : List ℕ
 request = 254 ∷ codes "mysql_native_password" ++ (0 ∷ codes "abcdefghijklmnopqrst" ++ (0 ∷ []))
 
--- the packets of such a request, of an OK and of an ERR
+-- such a request as a packet of this id
 abbrev pub request_packet : ℕ → List ℕ
 request_packet id = 44 ∷ 0 ∷ 0 ∷ id ∷ request
 
+-- an OK as a packet of this id
 abbrev pub ok_of : ℕ → List ℕ
 ok_of id = 7 ∷ 0 ∷ 0 ∷ id ∷ ok
 
+-- an ERR as a packet of this id
 abbrev pub err_of : ℕ → List ℕ
 err_of id = 11 ∷ 0 ∷ 0 ∷ id ∷ err
 

@@ -16,10 +16,11 @@ use Rattle.honest_server.specs.State.{with_own}
 use Rattle.honest_examples.specs.Effects.{IsRefused, IsServed, link}
 use Rattle.honest_examples.specs.Worked.{unmarked}
 
--- the schema, and the table of the files that were loaded
+-- the schema of the progress, as it stands in a database
 abbrev pub the_schema : Object
 the_schema = record { kind = Schema; schema = progress_schema; name = progress_schema; text = command_text CreateProgress; settings = None; columns = []; key = None; rank = 0; needs = [] }
 
+-- the table of the files that were loaded, as it stands in a database
 abbrev pub the_files : Object
 the_files = record {
   kind = Table;
@@ -37,16 +38,19 @@ the_files = record {
 abbrev pub file : List ℕ
 file = codes "s.t.00000.sql"
 
--- the schema is made, and the table, and the file is put
+-- the schema is made
 abbrev pub makes_schema : Transaction
 makes_schema = unmarked (Make the_schema ∷ [])
 
+-- the table of the files is made
 abbrev pub makes_files : Transaction
 makes_files = unmarked (Make the_files ∷ [])
 
+-- the file is put into that table
 abbrev pub puts_file : Transaction
 puts_file = unmarked (Put progress_schema (codes "files") (Value file ∷ []) ∷ [])
 
+-- the schema and the table, with the file
 abbrev pub with_file : Database
 with_file = record { objects = the_schema ∷ the_files ∷ []; rows = record { table = record { schema = progress_schema; name = codes "files" }; rows = (Value file ∷ []) ∷ [] } ∷ [] }
 

@@ -18,19 +18,23 @@ use Rattle.honest_server.specs.State.{State, no_settings, with_own}
 use Rattle.honest_examples.specs.Effects.{IsServed, link}
 use Rattle.honest_examples.specs.Worked.{schema, schema_alone, server, the_schema, unmarked}
 
+-- the text that makes the procedure
 abbrev pub procedure_text : List ℕ
 procedure_text = codes "CREATE PROCEDURE `p`() SELECT 1"
 
+-- the text that makes the view
 abbrev pub view_text : List ℕ
 view_text = codes "CREATE VIEW `v` AS SELECT 1"
 
+-- the settings of the session in which they are made
 abbrev pub settings : Settings
 settings = record { sql_mode = codes "ANSI"; client = codes "utf8mb4"; collation = codes "utf8mb4_bin"; zone = [] }
 
--- the procedure made under these settings, and the view, whose mode is empty
+-- the procedure that is made under these settings
 abbrev pub the_procedure : Object
 the_procedure = record { kind = Procedure; schema = schema; name = codes "p"; text = procedure_text; settings = Some settings; columns = []; key = None; rank = 0; needs = [] }
 
+-- the view that is made under them, whose mode is empty
 abbrev pub the_view : Object
 the_view = record { kind = View; schema = schema; name = codes "v"; text = view_text; settings = Some (record settings { sql_mode = [] }); columns = []; key = None; rank = 0; needs = [] }
 
@@ -52,13 +56,15 @@ pub record SettingsAreOfTheNextObject : Type 0 where
   pub cleared : IsServed (with_settings settings) (SomeCommand (Use schema)) done (with_settings no_settings)
   pub refused : Serves plainly (with_settings settings) (SomeCommand (Create procedure_text)) done (making (record the_procedure { settings = Some no_settings })) → ⊥
 
--- a link after the procedure, to a server that is willing or isn't
+-- a history in which the schema is made, and then the procedure
 abbrev pub with_procedure : List Transaction
 with_procedure = schema_alone ++ unmarked (Make the_procedure ∷ []) ∷ []
 
+-- a link in a session with a willing server, after the procedure was made
 abbrev pub reading : State
 reading = link with_procedure (Some schema)
 
+-- such a link to a server that answers ERR as it likes
 abbrev pub unwilling : State
 unwilling = record reading { terms = record reading.terms { server = record server { willing = false } } }
 
@@ -73,17 +79,19 @@ pub record ARoutineIsShownWithItsSettings : Type 0 where
   pub kept : (new : State) → Serves plainly reading (SomeQuery (CreateProcedure schema (codes "p"))) (rows (shown (codes "ANSI") Null)) new → ⊥
   pub refused : (new : State) → Serves plainly reading (SomeQuery (CreateProcedure schema (codes "p"))) (rows (shown [] (Value procedure_text))) new → ⊥
 
--- a function with the same settings, and a schema with all three
+-- a function with the same settings
 abbrev pub the_function : Object
 the_function = record the_procedure { kind = Function; name = codes "f"; text = codes "CREATE FUNCTION `f`() RETURNS int RETURN 1" }
 
+-- the schema with the procedure, the function and the view
 abbrev pub with_all : Database
 with_all = record { objects = the_schema ∷ the_procedure ∷ the_function ∷ the_view ∷ []; rows = [] }
 
--- how the two are listed
+-- the row of the procedure in ROUTINES
 abbrev pub procedure : List Cell
 procedure = Value (codes "p") ∷ Value (codes "PROCEDURE") ∷ []
 
+-- the row of the function in ROUTINES
 abbrev pub function : List Cell
 function = Value (codes "f") ∷ Value (codes "FUNCTION") ∷ []
 

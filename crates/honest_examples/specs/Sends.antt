@@ -11,10 +11,11 @@ use Rattle.honest_examples.specs.Links.{alive, broken, ok_packet}
 use Rattle.honest_examples.specs.Sites.{a_holds, b_sees, one_of_two, puts_five}
 use Rattle.honest_examples.specs.Worked.{history, put, row, table_text}
 
--- START TRANSACTION and ROLLBACK as messages
+-- START TRANSACTION as a message
 abbrev pub start : List ℕ
 start = 18 ∷ 0 ∷ 0 ∷ 0 ∷ 3 ∷ codes "START TRANSACTION"
 
+-- ROLLBACK as a message
 abbrev pub rollback : List ℕ
 rollback = 9 ∷ 0 ∷ 0 ∷ 0 ∷ 3 ∷ codes "ROLLBACK"
 
@@ -44,10 +45,11 @@ pub record ACommitMakesNothing : Type 0 where
   pub allowed : IsNoCreate commit
   pub refused : IsNoCreate (packets 0 (query_payload table_text)) → ⊥
 
--- COMMIT with the id 1, and without its last byte
+-- COMMIT as a message, but with the id 1
 abbrev pub commit_of_id_one : List ℕ
 commit_of_id_one = 7 ∷ 0 ∷ 0 ∷ 1 ∷ 3 ∷ codes "COMMIT"
 
+-- COMMIT as a message, but without its last byte
 abbrev pub cut_commit : List ℕ
 cut_commit = 7 ∷ 0 ∷ 0 ∷ 0 ∷ 3 ∷ codes "COMMI"
 

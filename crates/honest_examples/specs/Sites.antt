@@ -87,10 +87,11 @@ pub record LinksPutDifferentKeys : Type 0 where
   pub allowed : StaysHonest 0 (record (site true) { returned = (puts_three ∷ []) ∷ [] }) worked
   pub refused : StaysHonest 0 (record (site true) { returned = (puts_three ∷ []) ∷ [] }) (with_three worked) → ⊥
 
--- Two links to a quiet site: A puts the rows of the keys 3 and 4, and B that of 5.
+-- the row (4,NULL) is put; of two links to a quiet site, A puts those of the keys 3 and 4, and B that of 5
 abbrev pub puts_four : Transaction
 puts_four = unmarked (put (row (codes "4") Null) ∷ [])
 
+-- the row (5,NULL) is put
 abbrev pub puts_five : Transaction
 puts_five = unmarked (put (row (codes "5") Null) ∷ [])
 
@@ -110,10 +111,11 @@ pub record AGrantComesFirst : Type 0 where
 abbrev pub one_of_two : State
 one_of_two = record worked { terms = record worked.terms { sole = false } }
 
--- A has put its first row, and then holds the read lock
+-- A has put its first row
 abbrev pub a_first : State
 a_first = with_own one_of_two puts_three
 
+-- A holds the read lock after its first row
 abbrev pub a_holds : State
 a_holds = record (frozen a_first) { grants = (history ++ puts_three ∷ []) ∷ [] }
 
@@ -121,14 +123,15 @@ a_holds = record (frozen a_first) { grants = (history ++ puts_three ∷ []) ∷ 
 abbrev pub a_last : State
 a_last = with_own (record a_holds { frozen = false }) puts_four
 
--- B has seen what A has, and put its row
+-- B has seen the first row of A
 abbrev pub b_sees : State
 b_sees = with_others one_of_two (puts_three ∷ [])
 
+-- B has then put its own row
 abbrev pub b_last : State
 b_last = with_own b_sees puts_five
 
--- the history of both
+-- the site once both are back: after the worked history come these transactions
 abbrev pub settled : List Transaction → ServedSite
 settled after = record (site true) { history = history ++ after; grants = (history ++ puts_three ∷ []) ∷ [] }
 

@@ -16,9 +16,11 @@ use Rattle.honest_server.specs.State.{State, no_settings, with_own}
 use Rattle.honest_examples.specs.Effects.{IsRefused, IsServed, insert, link}
 use Rattle.honest_examples.specs.Worked.{no_rows, one, put, schema, schema_alone, table, the_schema, the_table, three, unmarked}
 
+-- the name of the trigger
 abbrev pub trigger : List ℕ
 trigger = codes "g"
 
+-- the text that makes it
 abbrev pub trigger_text : List ℕ
 trigger_text = codes "CREATE TRIGGER `g` BEFORE INSERT ON `t` FOR EACH ROW SET @a=1"
 
@@ -26,9 +28,11 @@ trigger_text = codes "CREATE TRIGGER `g` BEFORE INSERT ON `t` FOR EACH ROW SET @
 abbrev pub the_trigger : Object
 the_trigger = record { kind = Trigger; schema = schema; name = trigger; text = trigger_text; settings = Some no_settings; columns = []; key = None; rank = 1; needs = record { schema = schema; name = table } ∷ [] }
 
+-- a history in which the schema, the table and then the trigger are made
 abbrev pub with_trigger : List Transaction
 with_trigger = no_rows ++ unmarked (Make the_trigger ∷ []) ∷ []
 
+-- the schema, the table without rows, and the trigger
 abbrev pub triggered : Database
 triggered = record { objects = the_schema ∷ the_table ∷ the_trigger ∷ []; rows = [] }
 

@@ -10,9 +10,11 @@ use Rattle.honest_examples.specs.Answered.{no_table}
 use Rattle.honest_examples.specs.Routines.{the_view}
 use Rattle.honest_examples.specs.Worked.{schema, table, the_schema, the_table}
 
+-- the name of the view
 abbrev pub view : List ℕ
 view = codes "v"
 
+-- the text that makes it
 abbrev pub text : List ℕ
 text = codes "CREATE VIEW `v` AS SELECT `a` FROM `t`"
 

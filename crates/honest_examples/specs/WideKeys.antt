@@ -5,7 +5,6 @@ use Rattle.object_forms.specs.declared.shape.Column.{Column}
 use Rattle.server_data.specs.declared.data.Change.TheVariants.{Make, Put}
 use Rattle.server_data.specs.declared.data.Database.{Database}
 use Rattle.server_data.specs.declared.data.Object.{Object}
-use Rattle.server_data.specs.declared.data.TableRows.{TableRows}
 use Rattle.server_data.specs.declared.data.Transaction.{Transaction}
 use Rattle.sql_cells.specs.declared.cell.Cell.{Cell}
 use Rattle.sql_cells.specs.declared.cell.Cell.TheVariants.{Value}
@@ -15,46 +14,53 @@ use Rattle.honest_server.specs.WellFormed.{IsSound}
 use Rattle.honest_server.specs.Link.{IsSoundLink, ServedLink}
 use Rattle.honest_server.specs.WideKey.{KeepsWideKeys, comes_first}
 use Rattle.honest_examples.specs.Effects.{link}
-use Rattle.honest_examples.specs.Worked.{schema, schema_alone, server, the_schema, unmarked}
+use Rattle.honest_examples.specs.Worked.{schema, schema_alone, server, table_with, unmarked}
 
+-- the name of the table
 abbrev pub table : List ℕ
 table = codes "w"
 
+-- the text that makes it: two columns, and a primary key over both
 abbrev pub table_text : List ℕ
 table_text = codes "CREATE TABLE `w` (`a` int NOT NULL, `b` int NOT NULL, PRIMARY KEY (`a`,`b`)) ENGINE=InnoDB"
 
+-- a column of INT with this name
 abbrev pub integer : List ℕ → Column
 integer name = record { name = name; data_type = codes "int"; unsigned = false; generated = false }
 
+-- the table, as it stands in a database: it has no key of one column
 abbrev pub the_table : Object
 the_table = record { kind = Table; schema = schema; name = table; text = table_text; settings = None; columns = integer (codes "a") ∷ integer (codes "b") ∷ []; key = None; rank = 0; needs = [] }
 
--- the columns of its key, in the key's order, and in another
+-- the columns of its key, in the key's order
 abbrev pub keys : List (List ℕ)
 keys = codes "a" ∷ codes "b" ∷ []
 
+-- the columns of its key, in another order
 abbrev pub turned : List (List ℕ)
 turned = codes "b" ∷ codes "a" ∷ []
 
--- a row, and three of them, which aren't in the order of the key
+-- the row with these two numbers, as they are spelled
 abbrev pub row : List ℕ → List ℕ → List Cell
 row one other = Value one ∷ Value other ∷ []
 
+-- the row (1,1)
 abbrev pub one_one : List Cell
 one_one = row (codes "1") (codes "1")
 
+-- the row (1,2)
 abbrev pub one_two : List Cell
 one_two = row (codes "1") (codes "2")
 
+-- the row (2,0)
 abbrev pub two_zero : List Cell
 two_zero = row (codes "2") (codes "0")
 
-abbrev pub of_table : List Cell → TableRows
-of_table cells = record { table = record { schema = schema; name = table }; rows = cells ∷ [] }
-
+-- the schema and the table, with these rows
 abbrev pub with_rows : List (List Cell) → Database
-with_rows rows = record { objects = the_schema ∷ the_table ∷ []; rows = map of_table rows }
+with_rows = table_with the_table
 
+-- the table with three rows, which aren't in the order of the key
 abbrev pub wide : Database
 wide = with_rows (two_zero ∷ one_one ∷ one_two ∷ [])
 

@@ -22,30 +22,35 @@ printed = codes "[1, 2]"
 abbrev pub server : Server
 server = record { quiet = true; willing = true; plugin = []; newer = false; ends = Eof; old_status = false; prints = bytes_eq printed }
 
--- the names of the schema and of its table
+-- the name of the schema
 abbrev pub schema : List ℕ
 schema = codes "s"
 
+-- the name of its table
 abbrev pub table : List ℕ
 table = codes "t"
 
--- the texts that make them
+-- the text that makes the schema
 abbrev pub schema_text : List ℕ
 schema_text = codes "CREATE DATABASE `s`"
 
+-- the text that makes the table
 abbrev pub table_text : List ℕ
 table_text = codes "CREATE TABLE `t` (`id` int NOT NULL, `a` varchar(9), PRIMARY KEY (`id`)) ENGINE=InnoDB"
 
--- the table's columns: the key `id`, and `a`
+-- the column of the key, an INT
 abbrev pub id : Column
 id = record { name = codes "id"; data_type = codes "int"; unsigned = false; generated = false }
 
+-- the other column, a VARCHAR
 abbrev pub a : Column
 a = record { name = codes "a"; data_type = codes "varchar"; unsigned = false; generated = false }
 
+-- the schema, as it stands in a database
 abbrev pub the_schema : Object
 the_schema = record { kind = Schema; schema = schema; name = schema; text = schema_text; settings = None; columns = []; key = None; rank = 0; needs = [] }
 
+-- the table, as it stands in a database
 abbrev pub the_table : Object
 the_table = record { kind = Table; schema = schema; name = table; text = table_text; settings = None; columns = id ∷ a ∷ []; key = Some 0; rank = 0; needs = [] }
 
@@ -53,18 +58,19 @@ the_table = record { kind = Table; schema = schema; name = table; text = table_t
 abbrev pub row : List ℕ → Cell → List Cell
 row key cell = Value key ∷ cell ∷ []
 
--- (1,'a') and (2,NULL)
+-- the row (1,'a')
 abbrev pub one : List Cell
 one = row (codes "1") (Value (codes "a"))
 
+-- the row (2,NULL)
 abbrev pub two : List Cell
 two = row (codes "2") Null
 
--- (3,'c')
+-- the row (3,'c')
 abbrev pub three : List Cell
 three = row (codes "3") (Value (codes "c"))
 
--- (1,'b'), which has the key of another row
+-- the row (1,'b'), which has the key of another
 abbrev pub one_again : List Cell
 one_again = row (codes "1") (Value (codes "b"))
 
@@ -72,7 +78,7 @@ one_again = row (codes "1") (Value (codes "b"))
 abbrev pub unmarked : List Change → Transaction
 unmarked changes = record { changes = changes; mark = None }
 
--- and one after which this one is
+-- a transaction after which this position is known
 abbrev pub marked : Position → List Change → Transaction
 marked position changes = record { changes = changes; mark = Some position }
 
@@ -80,26 +86,33 @@ marked position changes = record { changes = changes; mark = Some position }
 abbrev pub put : List Cell → Change
 put cells = Put schema table cells
 
+-- a position of the binary log, without a GTID set
 abbrev pub position : Position
 position = record { file = codes "b.1"; offset = 157; gtid = [] }
 
--- the schema is made, and then the table
+-- a history in which the schema is made, and nothing else
 abbrev pub schema_alone : List Transaction
 schema_alone = unmarked (Make the_schema ∷ []) ∷ []
 
+-- a history in which the schema is made, and then the table
 abbrev pub no_rows : List Transaction
 no_rows = schema_alone ++ unmarked (Make the_table ∷ []) ∷ []
 
--- Then the first two rows are put into it, and the position after them is known.
+-- the worked history: then the first two rows are put into the table, and the position after them is known
 abbrev pub history : List Transaction
 history = no_rows ++ marked position (put one ∷ put two ∷ []) ∷ []
 
-abbrev pub of_table : List Cell → TableRows
-of_table cells = record { table = record { schema = schema; name = table }; rows = cells ∷ [] }
+-- a table with this row alone
+abbrev pub row_of_table : Object → List Cell → TableRows
+row_of_table object cells = record { table = record { schema = object.schema; name = object.name }; rows = cells ∷ [] }
 
--- the schema and the table, with these rows
+-- the schema and a table, with these rows
+abbrev pub table_with : Object → List (List Cell) → Database
+table_with object rows = record { objects = the_schema ∷ object ∷ []; rows = map (row_of_table object) rows }
+
+-- the schema and the worked table, with these rows
 abbrev pub with_rows : List (List Cell) → Database
-with_rows rows = record { objects = the_schema ∷ the_table ∷ []; rows = map of_table rows }
+with_rows = table_with the_table
 
 -- the database after the history
 abbrev pub database : Database

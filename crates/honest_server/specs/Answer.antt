@@ -23,9 +23,11 @@ use Rattle.honest_server.specs.WideKey.{ShowsWideKey, ShowsWideRows, no_bounds}
 abbrev pub object_at : Database → Kind → List ℕ → List ℕ → Option Object
 object_at database kind schema name = find (is_object kind schema name) database.objects
 
+-- the object stands in the schema of this name; a schema, where it is well-formed, stands in itself
 abbrev pub is_in_schema : List ℕ → Object → Bool
 is_in_schema schema object = bytes_eq object.schema schema
 
+-- a cell that has this value, and is NULL where there is none
 abbrev pub cell_of : Option (List ℕ) → Cell
 cell_of None = Null
 cell_of (Some bytes) = Value bytes
@@ -124,7 +126,7 @@ abbrev pub key_told : List Column → List (List Cell) → Option ℕ
 key_told columns ((Value name ∷ []) ∷ []) = position (is_key name) columns
 key_told columns rows = None
 
--- each row is the name of a column
+-- the row is the name of one of the columns, and nothing else
 abbrev pub is_column_name : List Column → List Cell → Bool
 is_column_name columns (Value name ∷ []) = list_any (λ column. bytes_eq column.name name) columns
 is_column_name columns row = false
@@ -139,10 +141,11 @@ abbrev pub WhereThere : Option Object → (Object → Type 0) → Type 0 → Typ
 WhereThere None P otherwise = otherwise
 WhereThere (Some object) P otherwise = P object
 
--- SHOW CREATE: one row, in which the text stands in this place, after the mode where it stands third, and before the settings
+-- SHOW CREATE DATABASE and SHOW CREATE TABLE: one row, whose second cell is the text of the object
 abbrev pub ShowsText : Object → List (List Cell) → Type 0
 ShowsText object rows = (first : Cell) × (more : List Cell) × (rows ≡ (first ∷ Value object.text ∷ more) ∷ [])
 
+-- SHOW CREATE VIEW: one row, with the text second, and then the client character set and the collation that the view was made under
 pub record ShowsView (object : Object) (rows : List (List Cell)) : Type 0 where
   pub settings : Settings
   pub settings_are : object.settings ≡ Some settings
@@ -175,14 +178,17 @@ pub record Bounds : Type 0 where
   pub above : Option ℤ
   pub up_to : Option ℤ
 
+-- the number is greater than the bound, or there is no bound
 abbrev pub is_above : Option ℤ → ℤ → Bool
 is_above None number = true
 is_above (Some bound) number = int_lt bound number
 
+-- the number is at most the bound, or there is no bound
 abbrev pub is_up_to : Option ℤ → ℤ → Bool
 is_up_to None number = true
 is_up_to (Some bound) number = int_le number bound
 
+-- the key is an integer that is greater than the one bound and at most the other, as far as there are bounds
 abbrev pub is_inside : Bounds → Option ℤ → Bool
 is_inside bounds None = false
 is_inside bounds (Some number) = is_above bounds.above number && is_up_to bounds.up_to number
@@ -241,17 +247,19 @@ pub record ShowsKey (database : Database) (object : Object) (asked : KeyAsked) (
   pub in_order : AreInOrder database object has_key.index (record { above = asked.above; up_to = None }) whole
   pub rows_are : rows ≡ filter_map (only_cell object.columns has_key.index) (take 1 (drop asked.skipped whole))
 
+-- no bounds: every key that is an integer is inside
 abbrev pub everything : Bounds
 everything = record { above = None; up_to = None }
 
+-- the schema in which a load keeps its progress
 abbrev pub progress_schema : List ℕ
 progress_schema = codes "myloader_progress"
 
--- a table of the database shows these rows
+-- the table is there, and this holds of it: a query for rows or keys of a table that isn't there has no answer
 abbrev pub TableShows : Database → List ℕ → List ℕ → (Object → Type 0) → Type 0
 TableShows database schema table P = WhereThere (object_at database Table schema table) P ⊥
 
--- an object of another kind shows its text
+-- the object is there, and this holds of it: a SHOW CREATE of an object that isn't there has no answer
 abbrev pub ObjectShows : Option Object → (Object → Type 0) → Type 0
 ObjectShows found P = WhereThere found P ⊥
 
@@ -302,11 +310,11 @@ Answers database (RowsBetweenWide columns schema table keys above up_to) rows =
 Answers database ProgressDump rows = TableShows database progress_schema (codes "dump") (λ object. ShowsAll database object (codes "digest" ∷ []) rows)
 Answers database ProgressFiles rows = TableShows database progress_schema (codes "files") (λ object. ShowsAll database object (codes "name" ∷ []) rows)
 
--- a GTID set as the server sends it, with line feeds
+-- a GTID set without the line feeds with which the server sends it
 abbrev pub without_line_feeds : List ℕ → List ℕ
 without_line_feeds bytes = filter (λ byte. not (byte == 10)) bytes
 
--- SHOW MASTER STATUS and SHOW BINARY LOG STATUS: no row where the history has no mark; else one, with the file, the offset, two others, and the GTID set
+-- the row of a position: the file, the offset, two cells that say other things, and the GTID set, in which line feeds may stand
 pub record ShowsPosition (position : Position) (rows : List (List Cell)) : Type 0 where
   pub third : Cell
   pub fourth : Cell
@@ -315,6 +323,7 @@ pub record ShowsPosition (position : Position) (rows : List (List Cell)) : Type 
   pub rows_are : rows ≡ (Value position.file ∷ Value (decimal position.offset) ∷ third ∷ fourth ∷ Value gtid ∷ more) ∷ []
   pub gtid_is : without_line_feeds gtid ≡ position.gtid
 
+-- SHOW MASTER STATUS and SHOW BINARY LOG STATUS: the row of the position where one is known, and else no row
 abbrev pub ShowsMark : Option Position → List (List Cell) → Type 0
 ShowsMark None rows = rows ≡ []
 ShowsMark (Some position) rows = ShowsPosition position rows
@@ -354,10 +363,11 @@ withheld_place (RowsBetweenWide columns schema table keys above up_to) = None
 withheld_place ProgressDump = None
 withheld_place ProgressFiles = None
 
--- the cell there isn't NULL
+-- the row has a cell in this place, and it isn't NULL
 abbrev pub is_told : ℕ → List Cell → Bool
 is_told place row = is_some (option_and_then bytes_of (slice_get row place))
 
+-- each row has a text in this place; where no place is given, nothing is asked of the rows
 abbrev pub are_told : Option ℕ → List (List Cell) → Bool
 are_told None rows = true
 are_told (Some place) rows = list_all (is_told place) rows

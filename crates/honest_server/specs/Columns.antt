@@ -11,10 +11,11 @@ use Rattle.sql_cells.specs.declared.cell.Cell.{Cell}
 use Rattle.sql_cells.specs.declared.cell.Cell.TheVariants.{Null, Value}
 use Rattle.sql_cells.specs.declared.cell_kind.CellKind.TheVariants.{Number}
 
--- types whose cells are numbers
+-- types whose cells are numbers without an exponent: the integers, DECIMAL and YEAR; FLOAT, DOUBLE and BIT are none of them
 abbrev pub number_types : List (List ℕ)
 number_types = codes "tinyint" ∷ codes "smallint" ∷ codes "mediumint" ∷ codes "int" ∷ codes "bigint" ∷ codes "decimal" ∷ codes "year" ∷ []
 
+-- the type is one of these
 abbrev pub is_number_type : List ℕ → Bool
 is_number_type data_type = list_any (bytes_eq data_type) number_types
 
@@ -26,6 +27,7 @@ has_number column cell = not (is_number_type column.data_type) || has_literal Nu
 abbrev pub is_json : Column → Bool
 is_json column = bytes_eq column.data_type (codes "json")
 
+-- the cell is NULL
 abbrev pub is_null : Cell → Bool
 is_null Null = true
 is_null (Value bytes) = false
@@ -52,6 +54,7 @@ are_printed prints (column ∷ columns) (cell ∷ cells) = is_printed prints col
 abbrev pub plain_columns : List Column → List Column
 plain_columns columns = filter is_plain columns
 
+-- the names of the columns that rows have cells of, in their order
 abbrev pub plain_names : List Column → List (List ℕ)
 plain_names columns = map (λ column. column.name) (plain_columns columns)
 
@@ -90,10 +93,11 @@ bits_of data_type =
     (if bytes_eq data_type (codes "mediumint") then 24 else
     (if bytes_eq data_type (codes "int") then 32 else 64)))
 
--- the least integer of a column's type, and the greatest
+-- the least integer of a column of an integer type: 0 where it is unsigned
 abbrev pub least_of : Column → ℤ
 least_of column = if column.unsigned then pos 0 else neg_ℤ (pos (2 ^ (bits_of column.data_type - 1)))
 
+-- the greatest integer of a column of an integer type, signed or unsigned as the column is
 abbrev pub greatest_of : Column → ℕ
 greatest_of column = if column.unsigned then 2 ^ bits_of column.data_type - 1 else 2 ^ (bits_of column.data_type - 1) - 1
 

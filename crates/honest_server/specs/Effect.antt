@@ -57,7 +57,7 @@ made_settings settings Event = Some settings
 abbrev pub greatest_rank : Database → Need → ℕ
 greatest_rank database table = fold (λ rank object. max rank object.rank) 0 (filter (is_on_table table.schema table.name) database.objects)
 
--- what an object that is made needs, and its rank: a trigger needs its table and stands last there; what a view needs is the server's to say
+-- a trigger that is made needs its table, and its rank is one more than the greatest of the triggers there
 pub record IsLastTrigger (database : Database) (object : Object) : Type 0 where
   pub table : Need
   pub needs : NeedsItsTable object table
@@ -69,6 +69,7 @@ pub record NeedsNothing (object : Object) : Type 0 where
   pub rank : object.rank ≡ 0
   pub needs : object.needs ≡ []
 
+-- what an object that is made needs, and its rank: a trigger stands last on its table, and what a view needs is the server's to say
 abbrev pub HasItsPlace : Database → Object → Kind → Type 0
 HasItsPlace database object Schema = NeedsNothing object
 HasItsPlace database object Table = NeedsNothing object
@@ -126,6 +127,7 @@ pub record InsertsText (state : State) (text : List ℕ) (new : State) : Type 0 
 abbrev pub one_text : List ℕ → List ℕ → Insertion
 one_text column text = record { columns = column ∷ []; rows = (record { cell = Value text; kind = Some Text } ∷ []) ∷ [] }
 
+-- the table of this name in the schema in which a load keeps its progress
 abbrev pub progress_table : List ℕ → Need
 progress_table name = record { schema = progress_schema; name = name }
 
@@ -146,6 +148,7 @@ pub record TakesSnapshot (state new : State) : Type 0 where
   pub ended : EndsOpen state state.pending middle
   pub new_is : new ≡ record middle { view = Some middle.seen }
 
+-- START TRANSACTION: the open transaction is committed, where there is one, and another is open that has no changes yet
 pub record Starts (state new : State) : Type 0 where
   pub middle : State
   pub ended : EndsOpen state state.pending middle

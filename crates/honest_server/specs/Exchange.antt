@@ -21,10 +21,11 @@ use Rattle.honest_server.specs.Serve.{Reply, Serves, GivesErr}
 use Rattle.honest_server.specs.Spelled.{Spells, SpellsDone, SpellsErr, IsLean}
 use Rattle.honest_server.specs.State.{Server, State, Phase, greeted, switching, in_session, over, with_others, with_error, closed_state}
 
--- COM_QUERY is the byte 03 and a text, COM_QUIT the byte 01
+-- COM_QUERY: the byte 03 and the text of a statement
 abbrev pub query_payload : List ℕ → List ℕ
 query_payload text = 3 ∷ text
 
+-- COM_QUIT: the byte 01
 abbrev pub quit_payload : List ℕ
 quit_payload = 1 ∷ []
 

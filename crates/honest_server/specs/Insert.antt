@@ -60,22 +60,25 @@ pub record SpellsInsert (text table : List ℕ) (says : Insertion) : Type 0 wher
   pub text_is : text ≡ codes "INSERT INTO " ++ quoted_name table ++ codes " (" ++ names says.columns ++ codes ") VALUES\n" ++ body
   pub spells : SpellsRows body says.rows
 
--- a table has a trigger
+-- the object is a trigger on this table
 abbrev pub is_on_table : List ℕ → List ℕ → Object → Bool
 is_on_table schema table object = kind_eq object.kind Trigger && (bytes_eq (table_of object.needs).schema schema && bytes_eq (table_of object.needs).name table)
 
+-- the table has a trigger
 abbrev pub has_trigger : Database → List ℕ → List ℕ → Bool
 has_trigger database schema table = list_any (is_on_table schema table) database.objects
 
+-- the number in the AUTO_INCREMENT column is under the counter; where the cell is no number, it isn't
 abbrev pub is_under_where : Column → ℕ → Option ℤ → Bool
 is_under_where column next None = false
 is_under_where column next (Some number) = is_under column next number
 
--- a row's number in the AUTO_INCREMENT column is under the counter
+-- the AUTO_INCREMENT column is there, and the row's number in it is under the counter
 abbrev pub is_under_counter : List Column → TableCounter → Option Column → List Cell → Bool
 is_under_counter columns counter None row = false
 is_under_counter columns counter (Some column) row = is_under_where column counter.next (whole_at columns counter.column row)
 
+-- each row's number in the AUTO_INCREMENT column is under the counter, where the table has one
 abbrev pub are_under : List Column → Option TableCounter → List (List Cell) → Bool
 are_under columns None rows = true
 are_under columns (Some counter) rows = list_all (is_under_counter columns counter (slice_get columns counter.column)) rows
@@ -84,6 +87,7 @@ are_under columns (Some counter) rows = list_all (is_under_counter columns count
 abbrev pub is_plain_insert : Database → Object → List (List Cell) → Bool
 is_plain_insert database object rows = not (has_trigger database object.schema object.name) && are_under object.columns (counter object.text) rows
 
+-- the changes that put these rows into the table, one for each row, in their order
 abbrev pub puts_of : Object → List (List Cell) → List Change
 puts_of object rows = map (λ row. Put object.schema object.name row) rows
 
@@ -103,6 +107,7 @@ is_converted (Some Converted) = true
 abbrev pub is_spelled_for : (List ℕ → Bool) → Column → SpelledCell → Bool
 is_spelled_for prints column spelled = if is_json column then is_null spelled.cell || (is_converted spelled.kind && is_printed prints column spelled.cell) else not (is_converted spelled.kind)
 
+-- the row has a cell for each column, spelled as the column takes it: JSON texts by CONVERT and no others
 abbrev pub are_spelled_for : (List ℕ → Bool) → List Column → List SpelledCell → Bool
 are_spelled_for prints [] [] = true
 are_spelled_for prints [] (cell ∷ cells) = false

@@ -40,12 +40,13 @@ ASoleLinkSeesItsOwn = (state new : State) (statement : Statement) (reply : Reply
 abbrev pub ASnapshotBesideShowsTheHolders : Type 0
 ASnapshotBesideShowsTheHolders = (holder state new : State) → Serves (beside holder) state (SomeCommand StartSnapshot) done new → new.view ≡ Some holder.seen
 
--- what is answered beside a holder of the read lock, but for an ERR, leaves just what the holder has seen
+-- the reply is an OK or rows, and no ERR
 abbrev pub IsNoErr : Reply → Type 0
 IsNoErr done = Unit {0}
 IsNoErr (rows found) = Unit {0}
 IsNoErr (refused found refusal) = ⊥
 
+-- what is answered beside a holder of the read lock, but for an ERR, leaves just what the holder has seen
 abbrev pub AStatementBesideSeesTheHolders : Type 0
 AStatementBesideSeesTheHolders = (holder state new : State) (statement : Statement) (reply : Reply) → IsNoErr reply → Serves (beside holder) state statement reply new → new.seen ≡ holder.seen
 
@@ -89,6 +90,7 @@ abbrev pub AGrantCanStandFirst : Type 0
 AGrantCanStandFirst = (base front : List Transaction) (fronts rests lists : List (List Transaction)) → AreJoined fronts rests lists → Interleaves fronts front
     → (whole : List Transaction) × Interleaves lists whole × IsPrefix (base ++ front) (base ++ whole)
 
+-- a column of TINYINT, signed or unsigned
 abbrev pub tiny : Bool → Column
 tiny unsigned = record { name = codes "k"; data_type = codes "tinyint"; unsigned = unsigned; generated = false }
 

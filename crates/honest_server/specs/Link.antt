@@ -113,7 +113,7 @@ pub record IsSoundState (state : State) : Type 0 where
   pub view : IfSome state.view (IsShown state)
   pub grants : All (IsShown state) state.grants
 
--- a history that shows each wide key once, where that is told
+-- all histories that a link shows are sound, and keep wide keys where the link tells that
 pub record IsSoundLink (link : ServedLink) : Type 0 where
   pub state : IsSoundState link.state
   pub wide : link.keeps_wide ≡ true → KeepsWideKeys link.state.seen

@@ -31,6 +31,7 @@ shown_history state form None = state.seen
 shown_history state Select (Some view) = view
 shown_history state form (Some view) = state.seen
 
+-- these rows answer the query over the database after the history that it is shown; a willing server withholds no text
 pub record IsAnswered (state : State) (query : Query) (found : List (List Cell)) : Type 0 where
   pub database : Database
   pub stands : db (shown_history state (query_form query) state.view) ≡ Some database

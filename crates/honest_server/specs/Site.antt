@@ -10,8 +10,9 @@ use Rattle.honest_server.specs.State.{Server, State, Given, Terms, greeted, no_s
 use Rattle.honest_server.specs.WellFormed.{IsSound}
 use Rattle.honest_server.specs.WideKey.{KeepsWideKeys}
 
--- the server; the history, the transactions of each link that came back while others were out, the ERR answers and lock grants of those
--- that came back; and whether the server still tells that each wide key stands once and is of its columns' types
+-- the server; the history; the transactions of links that came back and aren't told in it yet, or, where others write, of all that came back;
+-- the ERR answers and lock grants of those that came back; and whether the server still tells that each wide key stands once and is of its
+-- columns' types
 pub record ServedSite : Type 0 where
   pub server : Server
   pub history : List Transaction
@@ -29,6 +30,7 @@ pub record HasSeen (site : ServedSite) (sole : Bool) (seen : List Transaction) :
   pub alone : site.server.quiet ≡ true → sole ≡ true → more ≡ []
   pub willing : site.server.quiet ≡ true → site.server.willing ≡ true → more ≡ []
 
+-- the terms of a link that is made now: the site's server, its history so far, and whether the link is the only one
 abbrev pub terms_of : ServedSite → Bool → Terms
 terms_of site sole = record { server = site.server; base = site.history; sole = sole }
 
@@ -79,6 +81,7 @@ pub record Settles (old : ServedSite) (state : State) (new : ServedSite) : Type 
   pub none_left : old.server.quiet ≡ true → new.returned ≡ []
   pub returned : old.server.quiet ≡ false → new.returned ≡ old.returned ++ state.mine ∷ []
 
+-- a link came back, and so many are still out: its transactions are gathered while any is, and all are settled once none is
 abbrev pub GathersOrSettles : ℕ → ServedSite → State → ServedSite → Type 0
 GathersOrSettles zero old state new = Settles old state new
 GathersOrSettles (suc left) old state new = Gathers old state new

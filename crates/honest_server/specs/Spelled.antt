@@ -22,37 +22,45 @@ use Rattle.honest_server.specs.State.{Server}
 abbrev pub own_limit : ℕ
 own_limit = 16777216
 
+-- the message has no more bytes than a willing server may add of its own
 abbrev pub IsLean : List ℕ → Type 0
 IsLean message = length message ≤ own_limit
 
+-- how many bytes a cell has; NULL has none
 abbrev pub cell_size : Cell → ℕ
 cell_size Null = 0
 cell_size (Value bytes) = length bytes
 
+-- how many bytes the cells of a row have together
 abbrev pub row_size : List Cell → ℕ
 row_size cells = sum_by cell_size cells
 
+-- how many bytes the file and the GTID set have in the row of a position, without line feeds
 abbrev pub file_and_gtid : List Cell → ℕ
 file_and_gtid (Value file ∷ offset ∷ third ∷ fourth ∷ Value gtid ∷ more) = length file + length (without_line_feeds gtid)
 file_and_gtid cells = 0
 
--- the cell after the first, and those two after the text
+-- how many bytes the text has in a row of SHOW CREATE DATABASE or SHOW CREATE TABLE
 abbrev pub text_size : List Cell → ℕ
 text_size (first ∷ text ∷ more) = cell_size text
 text_size cells = 0
 
+-- how many bytes the text, the client character set and the collation have together in a row of SHOW CREATE VIEW
 abbrev pub view_size : List Cell → ℕ
 view_size (first ∷ text ∷ client ∷ collation ∷ more) = cell_size text + cell_size client + cell_size collation
 view_size cells = 0
 
+-- the same of the mode, the text, the client character set and the collation of a procedure, a function or a trigger
 abbrev pub routine_size : List Cell → ℕ
 routine_size (first ∷ mode ∷ text ∷ client ∷ collation ∷ more) = cell_size mode + cell_size text + cell_size client + cell_size collation
 routine_size cells = 0
 
+-- the same of the mode, the time zone, the text, the client character set and the collation in a row of SHOW CREATE EVENT
 abbrev pub event_size : List Cell → ℕ
 event_size (first ∷ mode ∷ zone ∷ text ∷ client ∷ collation ∷ more) = cell_size mode + cell_size zone + cell_size text + cell_size client + cell_size collation
 event_size cells = 0
 
+-- how many bytes the name and the DATA_TYPE have together in a row of COLUMNS
 abbrev pub column_size : List Cell → ℕ
 column_size (name ∷ data_type ∷ more) = cell_size name + cell_size data_type
 column_size cells = 0
@@ -113,6 +121,7 @@ pub record IsLeanSet (query : Query) (found : List (List Cell)) (messages : List
   pub rows_lean : AreLeanRows query row_messages found
   pub last_lean : IsLean last
 
+-- the rows as they are sent: NULL, or the bytes of the cell
 abbrev pub sent_rows : List (List Cell) → List (List SentCell)
 sent_rows found = map (map bytes_of) found
 
@@ -139,6 +148,7 @@ pub record BreaksOff (server : Server) (query : Query) (found : List (List Cell)
   pub turns : turns_of (columns_counted server.ends columns) others ≡ replicate (awaited_count server.ends columns) definition ++ (map row (sent_rows found) ++ refused_turn refusal ∷ [])
   pub lean : server.willing ≡ true → IsLeanSet query found messages
 
+-- one message, which is an OK
 pub record SpellsDone (server : Server) (messages : List (List ℕ)) : Type 0 where
   pub message : List ℕ
   pub messages_are : messages ≡ message ∷ []

@@ -81,6 +81,7 @@ with_others state more = record state { seen = state.seen ++ more }
 abbrev pub with_own : State → Transaction → State
 with_own state one = record state { seen = state.seen ++ one ∷ []; mine = state.mine ++ one ∷ []; pending = None }
 
+-- the link was answered by this ERR, to a statement of this form, or to what is no statement
 abbrev pub with_error : State → Option Form → Refusal → State
 with_error state form refusal = record state { errors = state.errors ++ record { form = form; refusal = refusal } ∷ [] }
 

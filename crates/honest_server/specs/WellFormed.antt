@@ -60,11 +60,12 @@ pub record IsShaped (object : Object) : Type 0 where
   pub columns : object.columns ≡ map (λ told. told.column) found.columns
   pub key : object.key ≡ found.key
 
+-- an object that has no columns and no key
 pub record IsUnshaped (object : Object) : Type 0 where
   pub columns : object.columns ≡ []
   pub key : object.key ≡ None
 
--- no other object has columns and a key
+-- a table's columns and key are those of its text, and no other object has any
 abbrev pub HasItsShape : Object → Kind → Type 0
 HasItsShape object Schema = IsUnshaped object
 HasItsShape object Table = IsShaped object
@@ -83,7 +84,7 @@ pub record NeedsItsTable (object : Object) (table : Need) : Type 0 where
   pub name : table.name ≡ name_value found.name
   pub needs : object.needs ≡ table ∷ []
 
--- and that table is there
+-- a trigger needs one table, that of its text, and it is there; of other objects nothing is asked
 abbrev pub HasItsTable : Database → Object → Kind → Type 0
 HasItsTable database object Schema = Unit {0}
 HasItsTable database object Table = Unit {0}
@@ -100,6 +101,7 @@ pub record HasKeys (columns : List Column) (index : ℕ) (rows : List (List Cell
   pub integers : All (λ row. IfSome (integer_at columns index row) (λ number. is_in_type column number ≡ true) × (integer_at columns index row ≢ None)) rows
   pub distinct : AllPairs (λ one other. integer_at columns index one ≢ integer_at columns index other) rows
 
+-- where the table has a key, each row's is an integer of its column's type, and no two rows have the same
 abbrev pub HasKeysWhere : List Column → Option ℕ → List (List Cell) → Type 0
 HasKeysWhere columns None rows = Unit {0}
 HasKeysWhere columns (Some index) rows = HasKeys columns index rows
@@ -110,6 +112,7 @@ pub record IsCounted (columns : List Column) (counter : TableCounter) (rows : Li
   pub column_is : slice_get columns counter.column ≡ Some column
   pub integers : All (λ row. IfSome (whole_at columns counter.column row) (λ number. is_under column counter.next number ≡ true) × (whole_at columns counter.column row ≢ None)) rows
 
+-- where the table has an AUTO_INCREMENT column, each cell of it is a number under the table's counter
 abbrev pub IsCountedWhere : List Column → Option TableCounter → List (List Cell) → Type 0
 IsCountedWhere columns None rows = Unit {0}
 IsCountedWhere columns (Some found) rows = IsCounted columns found rows
@@ -120,6 +123,7 @@ pub record HasGoodRows (object : Object) (rows : List (List Cell)) : Type 0 wher
   pub keys : HasKeysWhere object.columns object.key rows
   pub counted : IsCountedWhere object.columns (counter object.text) rows
 
+-- where the object is a table, its rows are as its columns have them
 abbrev pub HasGoodRowsWhere : Database → Object → Kind → Type 0
 HasGoodRowsWhere database object Schema = Unit {0}
 HasGoodRowsWhere database object Table = HasGoodRows object (rows_of database object.schema object.name)
@@ -134,6 +138,7 @@ pub record IsNamed (need : Need) : Type 0 where
   pub schema : is_name need.schema ≡ true
   pub name : is_name need.name ≡ true
 
+-- the object is as an honest server holds it: named, made by its text, and with the settings, columns, rows and needs that go with it
 pub record IsWellFormedObject (database : Database) (object : Object) : Type 0 where
   pub named : is_name object.name ≡ true
   pub in_schema : is_name object.schema ≡ true
@@ -145,6 +150,7 @@ pub record IsWellFormedObject (database : Database) (object : Object) : Type 0 w
   pub needs : All IsNamed object.needs
   pub rank : object.rank < 2 ^ 32
 
+-- the database is as an honest server holds it: each of its objects is, and each table's rows are
 pub record IsWellFormed (database : Database) : Type 0 where
   pub objects : All (IsWellFormedObject database) database.objects
 
@@ -156,6 +162,7 @@ is_visible byte = nat_le 32 byte && nat_le byte 126
 abbrev pub can_be_written : Position → Bool
 can_be_written position = not (is_empty position.file) && (list_all is_visible position.file && (list_all is_visible position.gtid && nat_lt position.offset (2 ^ 64)))
 
+-- the position after the transaction can be written on lines, where one is known
 abbrev pub HasGoodMark : Transaction → Type 0
 HasGoodMark one = IfSome one.mark (λ position. can_be_written position ≡ true)
 

@@ -30,6 +30,7 @@ abbrev pub are_wide : Option (List Column) → Bool
 are_wide None = false
 are_wide (Some columns) = nat_le 2 (length columns) && (nat_le (length columns) 4 && list_all is_plain_integer columns)
 
+-- these indices, where they are of two to four plain columns of integer types
 abbrev pub wide_where : List Column → List ℕ → Option (List ℕ)
 wide_where columns indices = if are_wide (columns_at columns indices) then Some indices else None
 
@@ -52,17 +53,21 @@ pub record WideBounds : Type 0 where
   pub above : Option (List ℤ)
   pub up_to : Option (List ℤ)
 
+-- no bounds: every key whose cells are integers is within
 abbrev pub no_bounds : WideBounds
 no_bounds = record { above = None; up_to = None }
 
+-- the key comes after the bound, or there is no bound
 abbrev pub is_after : Option (List ℤ) → List ℤ → Bool
 is_after None numbers = true
 is_after (Some bound) numbers = comes_first bound numbers
 
+-- the key is the bound or comes before it, or there is no bound
 abbrev pub is_not_after : Option (List ℤ) → List ℤ → Bool
 is_not_after None numbers = true
 is_not_after (Some bound) numbers = not (comes_first bound numbers)
 
+-- the key is of integers, comes after the one bound and not after the other, as far as there are bounds
 abbrev pub is_within : WideBounds → Option (List ℤ) → Bool
 is_within bounds None = false
 is_within bounds (Some numbers) = is_after bounds.above numbers && is_not_after bounds.up_to numbers

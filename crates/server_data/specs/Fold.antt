@@ -62,13 +62,15 @@ may_drop database kind schema name = has_object database kind schema name && not
 abbrev pub is_plain : Column → Bool
 is_plain column = not column.generated
 
+-- how many cells a row of a table with these columns has: one for each plain column
 abbrev pub plain_count : List Column → ℕ
 plain_count columns = length (filter is_plain columns)
 
--- the table is there and has so many plain columns
+-- the object is this table, and has so many plain columns
 abbrev pub takes_row : List ℕ → List ℕ → ℕ → Object → Bool
 takes_row schema name cells object = is_object Table schema name object && (plain_count object.columns == cells)
 
+-- a row may be put into this table: the table is there, and has as many plain columns as the row has cells
 abbrev pub fits_row : Database → List ℕ → List ℕ → List Cell → Bool
 fits_row database schema name row = list_any (takes_row schema name (length row)) database.objects
 
@@ -76,6 +78,7 @@ fits_row database schema name row = list_any (takes_row schema name (length row)
 abbrev pub is_of_table : List ℕ → List ℕ → TableRows → Bool
 is_of_table schema name rows = is_need schema name rows.table
 
+-- the rows of this table among these, in their order, wherever they stand
 abbrev pub rows_in : List ℕ → List ℕ → List TableRows → List (List Cell)
 rows_in schema name [] = []
 rows_in schema name (one ∷ others) = if is_of_table schema name one then one.rows ++ rows_in schema name others else rows_in schema name others
@@ -100,9 +103,11 @@ without_row schema name row [] = None
 without_row schema name row (one ∷ others) =
     found_or_later one others (if is_of_table schema name one then without_first row one.rows else None) (without_row schema name row others)
 
+-- the database with this object more, after the others
 abbrev pub with_object : Database → Object → Database
 with_object database object = record database { objects = database.objects ++ object ∷ [] }
 
+-- the database with this row of this table more, after all others
 abbrev pub with_row : Database → List ℕ → List ℕ → List Cell → Database
 with_row database schema name row = record database { rows = database.rows ++ record { table = record { schema = schema; name = name }; rows = row ∷ [] } ∷ [] }
 
@@ -131,6 +136,7 @@ abbrev pub more_db : Database → List Transaction → Option Database
 more_db database [] = Some database
 more_db database (one ∷ others) = option_and_then (λ (next : Database). more_db next others) (changes_db database one.changes)
 
+-- the database before any transaction: no objects and no rows
 abbrev pub empty_db : Database
 empty_db = record { objects = []; rows = [] }
 

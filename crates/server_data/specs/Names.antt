@@ -14,5 +14,6 @@ lower_digit digit = if nat_lt digit 10 then digit + 48 else digit + 87
 abbrev pub escaped_byte : ℕ → List ℕ
 escaped_byte byte = if stands_as_it_is byte then byte ∷ [] else 64 ∷ lower_digit (byte / 16) ∷ lower_digit (byte % 16) ∷ []
 
+-- how a name is spelled in the name of a file: letters, digits and `_` as they are, each other byte as `@` and two digits
 abbrev pub escaped_name : List ℕ → List ℕ
 escaped_name name = flat_map escaped_byte name
