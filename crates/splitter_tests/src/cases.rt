@@ -5,7 +5,8 @@ use crate::words::{Stopped, first_and_rest, text_of};
 use std::alloc::Global;
 use std::io;
 
-// Prints each case that differs, and how many cases there are. A line without ` => ` is a heading.
+/// Prints each case that differs, and how many cases there are. A line without ` => ` is a heading. It
+/// fails where printing does.
 pub fn try_all(rt: &HostRuntime, text: &str) -> io::Result<()> {
     let mut cases: u64 = 0;
     for line in text.lines() {

@@ -1,5 +1,6 @@
 //! Where the statements of a file begin, which of them are too long, and whether the file may end.
-ghost use Rattle.std.specs.Prelude.{◌≡◌, ◌+◌, ◌<◌, ◌≤◌, ◌^◌, length, IfOk};
+ghost use Rattle.std.specs.Prelude.{◌<◌, ◌≤◌, ◌^◌, length, IfOk};
+ghost use Rattle.statement_splitter.specs.Splits.{IsEven};
 
 use crate::words::{Stopped, add_bytes, add_text, bytes_of, number_and_rest, text_of};
 use plain_data::OutOfMemory;
@@ -30,7 +31,7 @@ fn add_all(
     splitter: &mut Splitter,
     was_wrong: bool,
 ) -> Result<bool, OutOfMemory>
-    ensures even { IfOk result (λ _. splitter.new.unread.offset + length splitter.new.unread.rest ≡ splitter.old.unread.offset + length splitter.old.unread.rest) }
+    ensures even { IfOk result (λ _. IsEven splitter.old.unread splitter.new.unread) }
 {
     'pieces: for _ in 0..MOST {
         match splitter.next() {
@@ -55,7 +56,7 @@ fn add_turn(
     splitter: &mut Splitter,
     was_wrong: bool,
 ) -> Result<bool, OutOfMemory>
-    ensures even { IfOk result (λ _. splitter.new.unread.offset + length splitter.new.unread.rest ≡ splitter.old.unread.offset + length splitter.old.unread.rest) }
+    ensures even { IfOk result (λ _. IsEven splitter.old.unread splitter.new.unread) }
 {
     let before = splitter.end();
     let is_wrong = add_all(words, alloc, splitter, was_wrong)?;
@@ -105,8 +106,8 @@ fn places_of(
     Ok(words)
 }
 
-// `places LIMIT FILE`: what comes of a file, the same in two pieces that are cut at each place, and in
-// pieces of each size.
+/// `places LIMIT FILE`: what comes of a file, the same in two pieces that are cut at each place, and in
+/// pieces of each size. It is refused only for want of memory.
 pub fn places_anywhere(alloc: Global, words: &str) -> Result<String, Stopped> {
     let (limit, rest) = number_and_rest(words);
     let file = bytes_of(alloc, rest)?;
@@ -127,8 +128,8 @@ pub fn places_anywhere(alloc: Global, words: &str) -> Result<String, Stopped> {
     Ok(whole)
 }
 
-// `long LIMIT SIZE PIECE`: what comes of a file in pieces of so many bytes. It holds `a` with a string of
-// so many semicolons, and `b`.
+/// `long LIMIT SIZE PIECE`: what comes of a file in pieces of so many bytes. It holds `a` with a string of
+/// so many semicolons, and `b`. It is refused only for want of memory.
 pub fn long_place(alloc: Global, words: &str) -> Result<String, Stopped> {
     let (limit, rest) = number_and_rest(words);
     let (size, rest) = number_and_rest(rest);

@@ -2,6 +2,7 @@
 ghost use Rattle.std.specs.Prelude.{◌≡◌, ◌+◌, ◌<◌, ◌≤◌, ◌^◌, length, IfOk};
 ghost use Rattle.statement_splitter.specs.Pieces.{pieces, unread_file};
 ghost use Rattle.statement_splitter.specs.Laws.{written, WritesOut};
+ghost use Rattle.statement_splitter.specs.Splits.{IsEven};
 
 use crate::words::{Stopped, add_bytes, add_text, bytes_of, text_of};
 use statement_splitter::Splitter;
@@ -14,8 +15,9 @@ const MOST: usize = 1_000_000;
 fn take_all(splitter: &mut Splitter, out: &mut Vec<u8>) -> Result<(), Stopped>
     requires { splitter.old.unread.offset + length splitter.old.unread.rest ≤ 2 ^ 62 }
 
-    ensures writes { IfOk result (λ _. WritesOut splitter.old.unread out.old.items splitter.new.unread out.new.items) }
-    ensures even { IfOk result (λ _. splitter.new.unread.offset + length splitter.new.unread.rest ≡ splitter.old.unread.offset + length splitter.old.unread.rest) }
+    ensures writes { IfOk result (λ _.
+        WritesOut splitter.old.unread out.old.items splitter.new.unread out.new.items) }
+    ensures even { IfOk result (λ _. IsEven splitter.old.unread splitter.new.unread) }
 {
     'pieces: loop {
         match splitter.next()? {
@@ -57,7 +59,8 @@ fn divided_words(alloc: Global, file: &[u8], cut: usize) -> Result<String, Stopp
     Ok(words)
 }
 
-// `texts FILE`: the statements of a file, each with a `|` after it, the same in pieces of each size.
+/// `texts FILE`: the statements of a file, each with a `|` after it, the same in pieces of each size. It
+/// is refused for want of memory, and where a statement has over 1,000 bytes.
 pub fn texts_anywhere(alloc: Global, words: &str) -> Result<String, Stopped> {
     let file = bytes_of(alloc, words)?;
     if file.is_empty() || file.len() > MOST {

@@ -38,34 +38,37 @@ impl<T: Drop> From<AllocFailed<T>> for Stopped {
     }
 }
 
-// The bytes that a word spells.
+/// The bytes that a word spells. It is refused only for want of memory.
 pub fn bytes_of(alloc: Global, word: &str) -> Result<Vec<u8>, OutOfMemory> {
     let mut bytes = Vec::new(alloc);
     percent_decode(word.as_bytes()).append_to(&mut bytes)?;
     Ok(bytes)
 }
 
-// Adds bytes in percent-encoding: controls, bytes past 0x7e and the percent sign are spelled.
+/// Adds bytes in percent-encoding: controls, bytes past 0x7e and the percent sign are spelled. It is refused
+/// only for want of memory.
 pub fn add_bytes(words: &mut String, bytes: &[u8]) -> Result<(), OutOfMemory> {
     percent_encode(bytes, CONTROLS.add(b'%')).append_to(words)?;
     Ok(())
 }
 
+/// Adds a text as it is. It is refused only for want of memory.
 pub fn add_text(words: &mut String, text: &str) -> Result<(), OutOfMemory> {
     words.push_str(text)?;
     Ok(())
 }
 
+/// An equal text. It is refused only for want of memory.
 pub fn text_of(alloc: Global, text: &str) -> Result<String, OutOfMemory> {
     Ok(String::from_str(alloc, text)?)
 }
 
-// The first word, and what stands after it.
+/// The first word, and what stands after it. Takes no memory.
 pub fn first_and_rest(words: &str) -> (&str, &str) {
     words.split_once(' ').unwrap_or((words, ""))
 }
 
-// The number that stands first, and what stands after it. A word that is no number is 0.
+/// The number that stands first, and what stands after it. A word that is no number is 0. Takes no memory.
 pub fn number_and_rest(words: &str) -> (u32, &str) {
     let (word, rest) = first_and_rest(words);
     (word.parse().unwrap_or(0), rest)

@@ -3,7 +3,7 @@ use Rattle.std.proofs.Common.{◌≡◌, ◌≢◌, ℕ, ◌+◌, ◌<◌, ◌�
 use Rattle.std.proofs.lemmas.List.{length-drop, drop-drop, drop-append-le, drop_all, take-append-le, append_assoc}
 use Rattle.statement_splitter.specs.Scan.{before_mark, size_in, end_size, is_line, plus}
 use Rattle.statement_splitter.specs.Pieces.{opening, GivesPiece, mark_of, Unread, with_more, after, ends_line, waiting, none, further, comment_step, step_by, step, next}
-use Rattle.statement_splitter.specs.State.{Ends, size_from, unread_at, InComment, InStatement, IsEnded, IsPlace, PassesOver, Known}
+use Rattle.statement_splitter.specs.State.{Ends, later_place, size_from, unread_at, InComment, InStatement, IsEnded, IsPlace, PassesOver, Known}
 use Rattle.statement_splitter.specs.declared.delimiter.Delimiter.{Delimiter}
 use Rattle.statement_splitter.specs.declared.delimiter.Delimiter.TheVariants.{Semicolon, Dollars}
 use Rattle.statement_splitter.specs.declared.within.Within.{Within}
@@ -20,15 +20,11 @@ use Rattle.statement_splitter.proofs.Openings.{IsSure, HasRoom, opening_stays, o
 use Rattle.statement_splitter.proofs.Wholes.{end_some}
 use Rattle.statement_splitter.proofs.Nexts.{more_twice, passes_more, onward_further, found_here, comment_over}
 
--- the place so many bytes further, of which nothing is known
-abbrev pub moved : Place → ℕ → Bool → Delimiter → Place
-moved place n fresh ending = record { at = place.at + n; offset = place.offset + n; fresh = fresh; ending = ending; begun = Unknown; scanned = 0 }
+pub unread_after : (bytes : List ℕ) (place : Place) (n : ℕ) (fresh : Bool) (ending : Delimiter) → after n fresh ending (unread_at bytes place) ≡ unread_at bytes (later_place place n fresh ending)
+unread_after bytes place n fresh ending = ap (λ rest. record (after n fresh ending (unread_at bytes place)) { rest = rest }) (drop-drop n place.at bytes)
 
-pub moved_unread : (bytes : List ℕ) (place : Place) (n : ℕ) (fresh : Bool) (ending : Delimiter) → after n fresh ending (unread_at bytes place) ≡ unread_at bytes (moved place n fresh ending)
-moved_unread bytes place n fresh ending = ap (λ rest. record (after n fresh ending (unread_at bytes place)) { rest = rest }) (drop-drop n place.at bytes)
-
-pub moved_place : (bytes : List ℕ) (place : Place) (n : ℕ) (fresh : Bool) (ending : Delimiter) → IsPlace bytes place → n ≤ length (drop place.at bytes) → IsPlace bytes (moved place n fresh ending)
-moved_place bytes place n fresh ending is room = record {
+pub is_later_place : (bytes : List ℕ) (place : Place) (n : ℕ) (fresh : Bool) (ending : Delimiter) → IsPlace bytes place → n ≤ length (drop place.at bytes) → IsPlace bytes (later_place place n fresh ending)
+is_later_place bytes place n fresh ending is room = record {
   inside = omega (arith, length-drop place.at bytes, is.inside);
   small = omega (arith, length-drop place.at bytes, is.inside, is.small);
   known = tt;
@@ -41,13 +37,13 @@ pub record IsOver (bytes : List ℕ) (old : Place) (n : ℕ) (fresh : Bool) (end
   pub room : n ≤ length (drop old.at bytes)
   pub onward : (more : List ℕ) → next (with_more more (unread_at bytes old)) ≡ next (with_more more (after n fresh ending (unread_at bytes old)))
 
-pub over : (bytes : List ℕ) (old new : Place) (n : ℕ) (fresh : Bool) (ending : Delimiter) → IsOver bytes old n fresh ending → new ≡ moved old n fresh ending → PassesOver bytes old new
+pub over : (bytes : List ℕ) (old new : Place) (n : ℕ) (fresh : Bool) (ending : Delimiter) → IsOver bytes old n fresh ending → new ≡ later_place old n fresh ending → PassesOver bytes old new
 over bytes old new n fresh ending h is =
     subst (PassesOver bytes old) (sym is) (record {
-      onward = λ more. h.onward more ∙ ap (λ u. next (with_more more u)) (moved_unread bytes old n fresh ending);
+      onward = λ more. h.onward more ∙ ap (λ u. next (with_more more u)) (unread_after bytes old n fresh ending);
       further = omega (arith, h.some);
       even = omega arith;
-      place = moved_place bytes old n fresh ending h.is h.room;
+      place = is_later_place bytes old n fresh ending h.is h.room;
     })
 
 mark_some : (end : CommentEnd) → 0 < length (mark_of end)
@@ -149,7 +145,7 @@ pub record IsGiven (bytes : List ℕ) (old : Place) (size : ℕ) (new : Place) :
   pub place : IsPlace bytes new
   pub gives : GivesPiece (unread_at bytes old) (record { offset = old.offset; text = take size (drop old.at bytes) }) (unread_at bytes new)
 
-ended_gives : (bytes : List ℕ) (old : Place) (size : ℕ) → IsEnded (unread_at bytes old) size → GivesPiece (unread_at bytes old) (record { offset = old.offset; text = take size (drop old.at bytes) }) (unread_at bytes (moved old (size + end_size old.ending) (is_line old.ending) old.ending))
+ended_gives : (bytes : List ℕ) (old : Place) (size : ℕ) → IsEnded (unread_at bytes old) size → GivesPiece (unread_at bytes old) (record { offset = old.offset; text = take size (drop old.at bytes) }) (unread_at bytes (later_place old (size + end_size old.ending) (is_line old.ending) old.ending))
 ended_gives bytes old size ended more =
     let rest : List ℕ = drop old.at bytes in
     let n : ℕ = size + end_size old.ending in
@@ -158,12 +154,12 @@ ended_gives bytes old size ended more =
     let left : drop n (rest ++ more) ≡ drop (old.at + n) bytes ++ more = drop-append-le n rest more fits ∙ ap (λ t. t ++ more) (drop-drop n old.at bytes) in
     ended.is more ∙ cc
 
-pub given : (bytes : List ℕ) (old new : Place) (size : ℕ) → IsPlace bytes old → IsEnded (unread_at bytes old) size → new ≡ moved old (size + end_size old.ending) (is_line old.ending) old.ending → IsGiven bytes old size new
+pub given : (bytes : List ℕ) (old new : Place) (size : ℕ) → IsPlace bytes old → IsEnded (unread_at bytes old) size → new ≡ later_place old (size + end_size old.ending) (is_line old.ending) old.ending → IsGiven bytes old size new
 given bytes old new size is ended new_is =
     subst (IsGiven bytes old size) (sym new_is) (record {
       further = omega (arith, end_some old.ending);
       even = omega arith;
-      place = moved_place bytes old (size + end_size old.ending) (is_line old.ending) old.ending is ended.fits;
+      place = is_later_place bytes old (size + end_size old.ending) (is_line old.ending) old.ending is ended.fits;
       gives = ended_gives bytes old size ended;
     })
 

@@ -1,5 +1,5 @@
 -- What follows from calls of a splitter, whatever bytes follow.
-use Rattle.std.specs.Prelude.{ℕ, ◌≡◌, List, [], ◌∷◌, ◌++◌}
+use Rattle.std.specs.Prelude.{ℕ, ◌≡◌, List, [], ◌∷◌, ◌++◌, codes}
 use Rattle.statement_splitter.specs.Pieces.{Unread, with_more, Piece, pieces, PassesLimit, GivesPiece, GivesNone}
 
 -- where a statement is given, it is the first of the file's, and the others are those of what is unread after it
@@ -11,6 +11,7 @@ pub record SameFromThenOn (old new : Unread) : Type 0 where
   pub none : pieces old ≡ []
   pub same : (more : List ℕ) → pieces (with_more more old) ≡ pieces (with_more more new)
 
+-- where none is given, no statement of the file is passed over
 abbrev pub NoneIsLost : Type 0
 NoneIsLost = (old new : Unread) → GivesNone old new → SameFromThenOn old new
 
@@ -27,3 +28,25 @@ written (statement ∷ statements) = (statement.text ++ 124 ∷ []) ++ written s
 pub record WritesOut (old : Unread) (before : List ℕ) (new : Unread) (now : List ℕ) : Type 0 where
   pub same : (more : List ℕ) → now ++ written (pieces (with_more more new)) ≡ before ++ written (pieces (with_more more old))
   pub none : pieces new ≡ []
+
+-- a worked file with comments, a string, and the word DELIMITER inside statements
+abbrev pub quoting_file : List ℕ
+quoting_file = codes "SET x; -- c;\nA 'x;''y' /* ; */ /*!1 ;DELIMITER $$\n a;\nb\n$$\nDELIMITER ;\nC"
+
+-- its statements: no DELIMITER in it begins a line between two of them, so each is part of one
+abbrev pub quoting_pieces : List Piece
+quoting_pieces =
+    record { offset = 0; text = codes "SET x" }
+    ∷ record { offset = 13; text = codes "A 'x;''y' /* ; */ /*!1 " }
+    ∷ record { offset = 37; text = codes "DELIMITER $$\n a" }
+    ∷ record { offset = 54; text = codes "b\n$$\nDELIMITER " }
+    ∷ []
+
+-- a worked file with a DELIMITER line between statements, and one that sets the semicolon again
+abbrev pub delimited_file : List ℕ
+delimited_file = codes "DELIMITER $$\nx;\n$$\nDELIMITER ;\ny;\n"
+
+-- its statements
+abbrev pub delimited_pieces : List Piece
+delimited_pieces =
+    record { offset = 13; text = codes "x;" } ∷ record { offset = 31; text = codes "y" } ∷ []

@@ -26,6 +26,7 @@ abbrev pub dollars_line : ℕ → List ℕ → Opening
 dollars_line n [] = Undecided
 dollars_line n (byte ∷ bytes) = if nat_le 2 n && byte == 10 then DelimiterLine (11 + n) (Dollars n) else Statement
 
+-- the byte is a `$`
 abbrev pub is_dollar : ℕ → Bool
 is_dollar byte = byte == 36
 
@@ -124,6 +125,7 @@ abbrev pub comment_step : Unread → List ℕ → Option ℕ → Step
 comment_step unread mark None = found (none unread)
 comment_step unread mark (Some size) = passed (size + length mark) unread
 
+-- what stands here, where this is what begins: a statement, nothing, or something that is passed over
 abbrev pub step_by : Unread → Opening → Step
 step_by unread Nothing = found (none unread)
 step_by unread White = passed 1 unread
@@ -132,6 +134,7 @@ step_by unread (DelimiterLine n ending) = further (after n true ending unread)
 step_by unread Statement = found (statement_next unread (size_in unread.ending unread.rest))
 step_by unread Undecided = found (waiting unread)
 
+-- what stands at the next byte
 abbrev pub step : Unread → Step
 step unread = step_by unread (opening unread.fresh unread.rest)
 
@@ -144,6 +147,7 @@ next_within (suc n) unread = elim (step unread) [ found next ↦ next | further 
 unfoldable pub next : Unread → Next
 next unread = next_within (suc (length unread.rest)) unread
 
+-- the statements that are ended, of at most so many
 abbrev pub pieces_within : ℕ → Unread → List Piece
 pieces_within zero unread = []
 pieces_within (suc n) unread = elim (next unread) [ piece statement unread ↦ statement ∷ pieces_within n unread | unended unread ↦ [] | waiting unread ↦ [] | none unread ↦ [] ]
@@ -152,6 +156,7 @@ pieces_within (suc n) unread = elim (next unread) [ piece statement unread ↦ s
 unfoldable pub pieces : Unread → List Piece
 pieces unread = pieces_within (suc (length unread.rest)) unread
 
+-- what comes after the statements that are ended, of which there are at most so many
 abbrev pub last_within : ℕ → Unread → Next
 last_within zero unread = none unread
 last_within (suc n) unread = elim (next unread) [ piece statement unread ↦ last_within n unread | unended unread ↦ unended unread | waiting unread ↦ waiting unread | none unread ↦ none unread ]

@@ -1,6 +1,6 @@
 -- What reading the next statement does.
-use Rattle.std.specs.Prelude.{◌≡◌, ℕ, ◌+◌, ◌≤◌, Bool, true, false, [], length, Result, Ok, Err, Option, Some, None}
-use Rattle.statement_splitter.specs.Pieces.{Unread, Piece, PassesLimit, GivesPiece, GivesNone}
+use Rattle.std.specs.Prelude.{◌≡◌, ℕ, ◌+◌, ◌≤◌, Bool, true, false, List, [], length, Result, Ok, Err, Option, Some, None}
+use Rattle.statement_splitter.specs.Pieces.{Unread, with_more, Piece, PassesLimit, GivesPiece, GivesNone}
 use Rattle.statement_splitter.specs.declared.splitter.SplitFault.{SplitFault}
 use Rattle.statement_splitter.specs.declared.splitter.SplitFault.TheVariants.{TooLong}
 use Rattle.statement_splitter.specs.declared.splitter.Piece as lent
@@ -14,6 +14,10 @@ pub record Split : Type 0 where
 -- the statement given last, where none is
 abbrev pub no_piece : Piece
 no_piece = record { offset = 0; text = [] }
+
+-- the same with these bytes of the file more, and no statement given last
+abbrev pub after_feed : Split → List ℕ → Split
+after_feed split bytes = record split { last = no_piece; unread = with_more bytes split.unread }
 
 -- the bytes that were fed are as many as before
 abbrev pub IsEven : Unread → Unread → Type 0

@@ -1,6 +1,6 @@
 -- How far a splitter looked at the bytes that it holds.
 use Rattle.std.specs.Prelude.{◌≡◌, ℕ, ◌+◌, ◌-◌, ◌<◌, ◌≤◌, ◌^◌, ◌==◌, ◌&&◌, Bool, true, false, List, [], ◌∷◌, ◌++◌, length, replicate, drop, slice_index, Option, Some, None}
-use Rattle.statement_splitter.specs.Scan.{after_byte, is_text, before_semicolon, before_mark, dollar_line, size_in, end_size, plus}
+use Rattle.statement_splitter.specs.Scan.{after_byte, is_text, before_semicolon, before_mark, dollar_line, size_in, end_size, is_line, plus}
 use Rattle.statement_splitter.specs.Pieces.{begins, is_front_of, opening, mark_of, Unread, with_more, unended, waiting, none, statement_next, comment_step, step, next, size_of}
 use Rattle.statement_splitter.specs.declared.delimiter.Delimiter.{Delimiter}
 use Rattle.statement_splitter.specs.declared.delimiter.Delimiter.TheVariants.{Semicolon, Dollars}
@@ -76,6 +76,22 @@ MayEnd (Dollars n) bytes to = is_front_of (dollar_line n) (drop to bytes) ≡ tr
 abbrev pub SearchesEnd : Delimiter → Within → List ℕ → ℕ → Scan → Type 0
 SearchesEnd ending within bytes from (scan.Ended to) = Ends (size_from ending within) bytes from to (end_size ending)
 SearchesEnd ending within bytes from (scan.Open to after) = GoesOn (size_from ending within) (size_from ending after) bytes from to × MayEnd ending bytes to
+
+-- the place so many bytes further, of which nothing is known
+abbrev pub later_place : Place → ℕ → Bool → Delimiter → Place
+later_place place size fresh ending = record {
+  at = place.at + size;
+  offset = place.offset + size;
+  fresh = fresh;
+  ending = ending;
+  begun = begun.Unknown;
+  scanned = 0;
+}
+
+-- the place after a statement of so many bytes and what ends it
+abbrev pub place_after_statement : Place → ℕ → Place
+place_after_statement place size =
+    later_place place (size + end_size place.ending) (is_line place.ending) place.ending
 
 -- what is unread at a place of the bytes
 abbrev pub unread_at : List ℕ → Place → Unread

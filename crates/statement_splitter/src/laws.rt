@@ -1,6 +1,6 @@
 //! Laws of the calls of a splitter, and of whole files.
-ghost use Rattle.std.specs.Prelude.{◌≡◌, codes, Some, None, [], ◌∷◌};
-ghost use Rattle.statement_splitter.specs.Laws.{AGivenPieceIsTheFirst, NoneIsLost, TooLongStaysSo};
+ghost use Rattle.std.specs.Prelude.{◌≡◌, codes, Some, None};
+ghost use Rattle.statement_splitter.specs.Laws.{AGivenPieceIsTheFirst, NoneIsLost, TooLongStaysSo, quoting_file, quoting_pieces, delimited_file, delimited_pieces};
 ghost use Rattle.statement_splitter.specs.Pieces.{pieces, unread_file, begun, last};
 
 /// A law: a statement that is given is the first of the file's, whatever bytes follow. Does nothing.
@@ -27,8 +27,8 @@ pub fn too_long_stays_so()
 /// nothing.
 #[inline]
 pub fn files_are_divided_so()
-    ensures comments_and_quotes { pieces (unread_file (codes "SET x; -- c;\nA 'x;''y' /* ; */ /*!1 ;DELIMITER $$\n a;\nb\n$$\nDELIMITER ;\nC")) ≡ record { offset = 0; text = codes "SET x" } ∷ record { offset = 13; text = codes "A 'x;''y' /* ; */ /*!1 " } ∷ record { offset = 37; text = codes "DELIMITER $$\n a" } ∷ record { offset = 54; text = codes "b\n$$\nDELIMITER " } ∷ [] }
-    ensures delimiters { pieces (unread_file (codes "DELIMITER $$\nx;\n$$\nDELIMITER ;\ny;\n")) ≡ record { offset = 13; text = codes "x;" } ∷ record { offset = 31; text = codes "y" } ∷ [] }
+    ensures comments_and_quotes { pieces (unread_file quoting_file) ≡ quoting_pieces }
+    ensures delimiters { pieces (unread_file delimited_file) ≡ delimited_pieces }
     ensures statement_begun { begun (last (unread_file (codes "x; y"))) ≡ Some 3 }
     ensures comment_begun { begun (last (unread_file (codes "x; /* y"))) ≡ None }
 {}

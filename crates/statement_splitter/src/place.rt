@@ -1,9 +1,8 @@
 //! Where a splitter is in the bytes that it holds.
 ghost use Rattle.std.specs.Prelude.{◌≡◌, ◌+◌, ◌≤◌, ◌<◌, ◌^◌, length, Some};
-ghost use Rattle.statement_splitter.specs.Scan.{end_size, is_line};
+ghost use Rattle.statement_splitter.specs.Scan.{end_size};
 ghost use Rattle.statement_splitter.specs.Pieces.{mark_of, begun, last};
-ghost use Rattle.statement_splitter.specs.State.{unread_at, InComment, InStatement, IsPlace, Turns, Finds, least};
-ghost use Rattle.statement_splitter.specs.declared.place.Begun.TheVariants.{Unknown};
+ghost use Rattle.statement_splitter.specs.State.{later_place, place_after_statement, unread_at, InComment, InStatement, IsPlace, Turns, Finds, least};
 
 use crate::delimiter::Delimiter;
 use crate::mark::{Mark, comment_end_from};
@@ -52,7 +51,7 @@ pub(crate) enum Found {
 fn after(place: Place, size: usize, fresh: bool, ending: Delimiter) -> Place
     requires at { place.at + size < 2 ^ 64 }
     requires offset { place.offset + size < 2 ^ 64 }
-    ensures { result ≡ record { at = place.at + size; offset = place.offset + size; fresh = fresh; ending = ending; begun = Unknown; scanned = 0 } }
+    ensures { result ≡ later_place place size fresh ending }
 {
     Place {
         at: place.at + size,
@@ -68,7 +67,7 @@ fn after(place: Place, size: usize, fresh: bool, ending: Delimiter) -> Place
 pub(crate) fn after_statement(place: Place, size: usize) -> Place
     requires at { place.at + (size + end_size place.ending) < 2 ^ 64 }
     requires offset { place.offset + (size + end_size place.ending) < 2 ^ 64 }
-    ensures { result ≡ record { at = place.at + (size + end_size place.ending); offset = place.offset + (size + end_size place.ending); fresh = is_line place.ending; ending = place.ending; begun = Unknown; scanned = 0 } }
+    ensures { result ≡ place_after_statement place size }
 {
     match place.ending {
         Delimiter::Semicolon => after(place, size + 1, false, place.ending),

@@ -2,7 +2,7 @@
 ghost use Rattle.std.specs.Prelude.{◌≡◌, ◌+◌, ◌≤◌, ◌^◌, [], length, drop, vec_len, OnOk, OnErr, MatchResult, None, Some};
 ghost use Rattle.std.specs.Borrow.{sem};
 ghost use Rattle.std.specs.Io.BufRead.{Rests};
-ghost use Rattle.statement_splitter.specs.Pieces.{with_more, unread_file, begun, last};
+ghost use Rattle.statement_splitter.specs.Pieces.{unread_file, begun, last};
 
 use crate::delimiter::Delimiter;
 use crate::place::{Begun, Found, Place, after_statement, begun_from, find, least_size};
@@ -66,7 +66,7 @@ fn give_up_front(store: &mut Vec<u8>, count: usize)
 }
 
 impl Splitter {
-    ghost use Rattle.statement_splitter.specs.Splits.{Steps, HandsOut, no_piece, piece_of};
+    ghost use Rattle.statement_splitter.specs.Splits.{Steps, HandsOut, after_feed, no_piece, piece_of};
     ghost use Rattle.statement_splitter.specs.contracts.splitter.Splitter.{the_row};
 
     /// A file of which nothing was fed. A statement may have at most `limit` bytes. Takes no memory.
@@ -93,9 +93,10 @@ impl Splitter {
     /// Adds bytes of the file. A refusal, for want of memory, adds none. The statement given last is
     /// forgotten.
     pub fn feed(&mut self, piece: &[u8]) -> Result<(), OutOfMemory>
-        requires in_all { self.old.unread.offset + length self.old.unread.rest + length piece.now ≤ 2 ^ 62 }
+        requires in_all { self.old.unread.offset + length self.old.unread.rest
+            + length piece.now ≤ 2 ^ 62 }
 
-        ensures ok { OnOk result (self.new ≡ record self.old { last = no_piece; unread = with_more piece.now self.old.unread }) }
+        ensures ok { OnOk result (self.new ≡ after_feed self.old piece.now) }
         ensures err { OnErr result (self.new ≡ record self.old { last = no_piece }) }
     {
         self.offset = 0;
@@ -154,7 +155,8 @@ impl Splitter {
     /// Whether the file may end here: where a statement is begun that isn't ended, how many bytes of
     /// the file come before it. Takes no memory.
     pub fn end(&self) -> Result<(), u64>
-        ensures { MatchResult result (λ _. begun (last self.now.unread) ≡ None) (λ offset. begun (last self.now.unread) ≡ Some offset) }
+        ensures { MatchResult result (λ _. begun (last self.now.unread) ≡ None)
+            (λ offset. begun (last self.now.unread) ≡ Some offset) }
     {
         match begun_from(&self.store, self.place) {
             Some(offset) => Err(offset),
