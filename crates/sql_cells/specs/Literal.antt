@@ -18,6 +18,7 @@ is_special byte = byte == 0 || byte == 10 || byte == 13 || byte == 26 || byte ==
 abbrev pub letter_of : ℕ → ℕ
 letter_of byte = if byte == 0 then 48 else (if byte == 10 then 110 else (if byte == 13 then 114 else (if byte == 26 then 90 else byte)))
 
+-- a byte as it stands between quotes: a special one as its letter after a backslash, each other one as it is
 abbrev pub escaped_byte : ℕ → List ℕ
 escaped_byte byte = if is_special byte then 92 ∷ letter_of byte ∷ [] else byte ∷ []
 

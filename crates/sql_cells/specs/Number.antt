@@ -3,6 +3,7 @@ use Rattle.std.specs.Prelude.{ℕ, ◌==◌, ◌&&◌, nat_le, if◌then◌else�
 use Rattle.std.specs.List.{list_all}
 use Rattle.grammar.specs.Language.{Language, Nothing, Fixed, One, Then, Or, Many}
 
+-- a decimal digit
 abbrev pub is_digit : ℕ → Bool
 is_digit byte = nat_le 48 byte && nat_le byte 57
 
@@ -28,10 +29,12 @@ Number = Then (Then Sign Digits) Fraction
 
 -- The same as a test.
 
+-- one digit or more, and nothing else
 abbrev pub is_digits : List ℕ → Bool
 is_digits [] = false
 is_digits (byte ∷ bytes) = list_all is_digit (byte ∷ bytes)
 
+-- nothing, or a point and digits
 abbrev pub is_fraction : List ℕ → Bool
 is_fraction [] = true
 is_fraction (byte ∷ bytes) = byte == 46 && is_digits bytes
@@ -41,6 +44,7 @@ abbrev pub is_unsigned_after : Bool → List ℕ → Bool
 is_unsigned_after any [] = any
 is_unsigned_after any (byte ∷ bytes) = if is_digit byte then is_unsigned_after true bytes else any && is_fraction (byte ∷ bytes)
 
+-- an optional minus, digits, and optionally a point and digits
 abbrev pub is_number : List ℕ → Bool
 is_number [] = false
 is_number (byte ∷ bytes) = if byte == 45 then is_unsigned_after false bytes else is_unsigned_after false (byte ∷ bytes)

@@ -9,6 +9,7 @@ use Rattle.sql_cells.specs.Literal.{Cell, literal}
 use Rattle.sql_cells.specs.declared.cell_kind.CellKind.{CellKind}
 use Rattle.sql_cells.specs.declared.cell_kind.CellKind.TheVariants as Kind
 
+-- the word NULL, in capitals
 unfoldable pub Null : Language
 Null = Fixed (codes "NULL")
 
@@ -28,6 +29,7 @@ Escape = Then (Fixed (92 ∷ [])) (One is_letter)
 unfoldable pub Inner : Language
 Inner = Or (One is_plain) Escape
 
+-- a quote and what stands between quotes, with no closing quote yet
 unfoldable pub Opened : Language
 Opened = Then (Fixed (39 ∷ [])) (Many Inner)
 
@@ -35,13 +37,15 @@ Opened = Then (Fixed (39 ∷ [])) (Many Inner)
 unfoldable pub Quoted : Language
 Quoted = Then Opened (Fixed (39 ∷ []))
 
--- A doubled quote is where one such part ends and the next begins.
+-- parts from quote to quote, one after another: a doubled quote is where one ends and the next begins
 unfoldable pub Text : Language
 Text = Then Quoted (Many Quoted)
 
+-- two hexadecimal digits
 unfoldable pub Pair : Language
 Pair = Then (One is_hex_digit) (One is_hex_digit)
 
+-- X' and pairs of digits, with no closing quote yet
 unfoldable pub OpenedHex : Language
 OpenedHex = Then (Fixed (88 ∷ 39 ∷ [])) (Many Pair)
 
@@ -49,6 +53,7 @@ OpenedHex = Then (Fixed (88 ∷ 39 ∷ [])) (Many Pair)
 unfoldable pub Hex : Language
 Hex = Then OpenedHex (Fixed (39 ∷ []))
 
+-- CONVERT( and a text, with nothing after it yet
 unfoldable pub OpenedConverted : Language
 OpenedConverted = Then (Fixed (codes "CONVERT(")) Text
 
@@ -56,6 +61,7 @@ OpenedConverted = Then (Fixed (codes "CONVERT(")) Text
 unfoldable pub Converted : Language
 Converted = Then OpenedConverted (Fixed (codes " USING utf8mb4)"))
 
+-- NULL, a number, a text, hexadecimal digits, or a converted text
 unfoldable pub Literal : Language
 Literal = Or Null (Or Number (Or Text (Or Hex Converted)))
 
@@ -106,7 +112,7 @@ abbrev pub EndsThere : List ℕ → Type 0
 EndsThere [] = ⊤
 EndsThere (byte ∷ bytes) = (byte ≡ 44) ⊎ (byte ≡ 41)
 
--- What is written spells its cell, as the kind that was asked for, and is read back whole where nothing, a comma or a closing parenthesis follows.
+-- what is written spells its cell, as the kind that was asked for, and is read back whole where nothing, a comma or a closing parenthesis follows
 pub record IsReadBack (kind : CellKind) (cell : Cell) : Type 0 where
   pub spells : Spells (literal kind cell) cell
   pub kind_is : literal_kind (literal kind cell) ≡ option_map (λ _. kind) cell

@@ -2,14 +2,15 @@
 use Rattle.std.proofs.Common.{◌≡◌, ◌==◌, subst, ℕ, suc, ◌+◌, ◌-◌, ◌*◌, ◌<◌, ◌≤◌, false, true, length-append, append_assoc, List, [], ◌∷◌, ◌++◌, length, get_or, take, drop, refl, sym, ap, ◌∙◌, take-add, arith, cond, None}
 use Rattle.std.specs.Prelude.{codes}
 use Rattle.std.specs.List.{flat_map, count_by}
-use Rattle.std.proofs.lemmas.List.{take_more, drop_more, take-append-drop, append-nil, drop-drop, get_or-drop, get_or-take, length-drop, length-take-le}
+use Rattle.std.proofs.lemmas.List.{take_all, take_more, drop_more, take-append-drop, append-nil, drop-drop, get_or-drop, get_or-take, length-drop, length-take-le}
 use Rattle.std.proofs.lemmas.List.Sums.{count_by-le-length, sum_by-cons}
 use Rattle.std.proofs.lemmas.List.Concat.{flat_map-append}
 use Rattle.sql_cells.specs.Literal.{escaped_byte, is_special, letter_of, text_literal, converted_literal, literal, has_literal}
 use Rattle.sql_cells.specs.declared.cell_kind.CellKind.{CellKind}
 use Rattle.sql_cells.specs.declared.cell_kind.CellKind.TheVariants.{Number, Text, Hex, Converted}
 use Rattle.sql_cells.specs.Name.{name_byte, quoted_name}
-use Rattle.sql_literals.specs.Runs.{PlainRun}
+use Rattle.plain_data.specs.Buffer.{BufferView}
+use Rattle.sql_literals.specs.Runs.{PlainRun, AppendsEscaped}
 
 pub one_more : (f : ℕ → List ℕ) (xs : List ℕ) (i : ℕ) → i < length xs → flat_map f (take (i + 1) xs) ≡ flat_map f (take i xs) ++ f (get_or xs i 0)
 one_more f xs i h = ap (flat_map f) (take_more xs i 0 h) ∙ flat_map-append f (take i xs) (get_or xs i 0 ∷ []) ∙ ap (λ t. flat_map f (take i xs) ++ t) (append-nil _)
@@ -41,7 +42,7 @@ plain_list (x ∷ xs) h =
     let rest : flat_map escaped_byte xs ≡ xs = plain_list xs (λ k l. h (suc k) (omega arith)) in
     ap (λ t. t ++ flat_map escaped_byte xs) here ∙ ap (λ t. x ∷ t) rest
 
-run_is_plain : (xs : List ℕ) (i j : ℕ) → PlainRun xs i j → flat_map escaped_byte (take (j - i) (drop i xs)) ≡ take (j - i) (drop i xs)
+pub run_is_plain : (xs : List ℕ) (i j : ℕ) → PlainRun xs i j → flat_map escaped_byte (take (j - i) (drop i xs)) ≡ take (j - i) (drop i xs)
 run_is_plain xs i j r =
     plain_list _ (λ k l.
     let long : length (take (j - i) (drop i xs)) ≡ j - i = length-take-le (j - i) (drop i xs) (omega (arith, length-drop i xs, r.high)) in
@@ -105,3 +106,36 @@ null_has Number = refl
 null_has Text = refl
 null_has Hex = refl
 null_has Converted = refl
+
+-- What stands in front of a place fits where all that is left does.
+pub piece_fits : (xs : List ℕ) (i j : ℕ) → i ≤ j → length (flat_map escaped_byte (take (j - i) (drop i xs))) ≤ length (flat_map escaped_byte (drop i xs))
+piece_fits xs i j low = omega (arith, simp length-append at (ap length (piece_less escaped_byte xs i j low)))
+
+pub run_length : (xs : List ℕ) (i j : ℕ) → PlainRun xs i j → length (flat_map escaped_byte (take (j - i) (drop i xs))) ≡ j - i
+run_length xs i j r = ap length (run_is_plain xs i j r) ∙ length-take-le (j - i) (drop i xs) (omega (arith, length-drop i xs, r.high))
+
+-- a run of plain bytes was appended as it is
+pub run_appended : (xs : List ℕ) (i j : ℕ) (old new : BufferView) → PlainRun xs i j → new.bytes ≡ old.bytes ++ take (j - i) (drop i xs) → new.spare + length (take (j - i) (drop i xs)) ≡ old.spare → AppendsEscaped (take (j - i) (drop i xs)) old new
+run_appended xs i j old new r text room = record {
+  text = text ∙ ap (λ t. old.bytes ++ t) (sym (run_is_plain xs i j r));
+  room = ap (λ t. new.spare + length t) (run_is_plain xs i j r) ∙ room;
+}
+
+-- the bytes up to one place were appended, and then those from there up to another
+pub appended_more : (xs : List ℕ) (i j : ℕ) (old mid new : BufferView) → i ≤ j → AppendsEscaped (take i xs) old mid → AppendsEscaped (take (j - i) (drop i xs)) mid new → AppendsEscaped (take j xs) old new
+appended_more xs i j old mid new low one two =
+    let more = piece_more escaped_byte xs i j low in
+    record {
+      text = two.text ∙ ap (λ t. t ++ flat_map escaped_byte (take (j - i) (drop i xs))) one.text ∙ append_assoc old.bytes _ _ ∙ ap (λ t. old.bytes ++ t) (sym more);
+      room = omega (arith, one.room, two.room, simp length-append at (ap length more));
+    }
+
+-- all bytes were appended
+pub appended_whole : (xs : List ℕ) (i : ℕ) (old new : BufferView) → length xs ≤ i → AppendsEscaped (take i xs) old new → AppendsEscaped xs old new
+appended_whole xs i old new all done = subst (λ (t : List ℕ). AppendsEscaped t old new) (take_all i xs all) done
+
+-- what is left fits where all fits
+pub rest_fits : (xs : List ℕ) (i : ℕ) (old mid : BufferView) → length (flat_map escaped_byte xs) ≤ old.spare → AppendsEscaped (take i xs) old mid → length (flat_map escaped_byte (drop i xs)) ≤ mid.spare
+rest_fits xs i old mid fits one =
+    let all : flat_map escaped_byte xs ≡ flat_map escaped_byte (take i xs) ++ flat_map escaped_byte (drop i xs) = ap (flat_map escaped_byte) (sym (take-append-drop i xs)) ∙ flat_map-append escaped_byte (take i xs) (drop i xs) in
+    omega (arith, one.room, fits, simp length-append at (ap length all))

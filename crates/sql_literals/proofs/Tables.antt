@@ -6,8 +6,7 @@ use Rattle.std.proofs.lemmas.List.{take-append-le, take_all, length-take-le}
 use Rattle.std.proofs.Math.Seq.{take-append-add}
 use borrow.Rule.Slice.PartMut.{put_mid, post_of}
 use Rattle.sql_cells.specs.Literal.{escaped_byte}
-use Rattle.sql_literals.specs.declared.special.TheConstants.{MARKS}
-use Rattle.sql_literals.specs.declared.pairs.TheConstants.{PAIRS}
+use Rattle.sql_literals.specs.declared.pairs.TheConstants.{PAIRS, WIDTHS}
 use Rattle.sql_literals.specs.Runs.{Escaped}
 use Rattle.sql_literals.proofs.Growth.{one_more, byte_length}
 
@@ -26,8 +25,8 @@ same_lists (x ∷ xs) (y ∷ ys) h =
     let parts = and_parts (x == y) (is_same xs ys) h in
     ap (λ b. b ∷ xs) (eqb-true x y parts.0) ∙ ap (λ t. y ∷ t) (same_lists xs ys parts.1)
 
-pub width_of : (b : ℕ) → b < 256 → 1 + get_or MARKS b 0 ≡ length (escaped_byte b)
-width_of b small = eqb-true _ _ (agree_below_at (λ b. 1 + get_or MARKS b 0 == length (escaped_byte b)) (λ _. true) 256 b refl small)
+pub width_of : (b : ℕ) → b < 256 → get_or WIDTHS b 0 ≡ length (escaped_byte b)
+width_of b small = eqb-true _ _ (agree_below_at (λ b. get_or WIDTHS b 0 == length (escaped_byte b)) (λ _. true) 256 b refl small)
 
 pub pair_of : (b : ℕ) → b < 256 → take (length (escaped_byte b)) (get_or PAIRS b []) ≡ escaped_byte b
 pair_of b small = same_lists _ _ (agree_below_at (λ b. is_same (take (length (escaped_byte b)) (get_or PAIRS b [])) (escaped_byte b)) (λ _. true) 256 b refl small)

@@ -1,6 +1,7 @@
 //! Texts of JSON: a text literal that is converted to utf8mb4.
-ghost use Rattle.std.specs.Prelude.{◌≡◌, ◌+◌, ◌≤◌, ◌++◌, length, IsOk, OnOk, OnErr};
+ghost use Rattle.std.specs.Prelude.{◌≡◌, ◌≤◌, ◌++◌, length, OnOk, OnErr};
 ghost use Rattle.sql_cells.specs.Literal.{converted_literal};
+ghost use Rattle.sql_literals.specs.Room.{TakesRoom};
 
 use crate::text::{push_text, reserve_text, text_length};
 use plain_data::{Buffer, OutOfMemory};
@@ -23,8 +24,7 @@ pub(crate) fn converted_length(bytes: &[u8]) -> usize
 pub(crate) fn converted_into(bytes: &[u8], out: &mut Buffer) -> Result<(), OutOfMemory>
     ensures ok { OnOk result (out.new.bytes ≡ out.old.bytes ++ converted_literal bytes.now) }
     ensures err { OnErr result (out.new ≡ out.old) }
-    ensures room { length (converted_literal bytes.now) ≤ out.old.spare →
-        IsOk result × (out.new.spare + length (converted_literal bytes.now) ≡ out.old.spare) }
+    ensures room { TakesRoom result out.old.spare out.new.spare (converted_literal bytes.now) }
 {
     reserve_text(bytes, AROUND, out)?;
     out.push(b"CONVERT(");

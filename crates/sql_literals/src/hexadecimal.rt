@@ -1,7 +1,8 @@
 //! Bytes as hexadecimal digits.
-ghost use Rattle.std.specs.Prelude.{◌≡◌, ◌+◌, ◌*◌, ◌≤◌, ◌^◌, ◌++◌, length, IsOk, OnOk, OnErr, MatchOption};
+ghost use Rattle.std.specs.Prelude.{◌≡◌, ◌+◌, ◌*◌, ◌≤◌, ◌^◌, ◌++◌, length, OnOk, OnErr, MatchOption};
 ghost use Rattle.hex.specs.Hex.{encode_upper};
 ghost use Rattle.sql_cells.specs.Literal.{hex_literal};
+ghost use Rattle.sql_literals.specs.Room.{TakesRoom};
 
 use plain_data::{Buffer, OutOfMemory};
 
@@ -69,8 +70,7 @@ fn push_digits(bytes: &[u8], out: &mut Buffer)
 pub(crate) fn hexadecimal_into(bytes: &[u8], out: &mut Buffer) -> Result<(), OutOfMemory>
     ensures ok { OnOk result (out.new.bytes ≡ out.old.bytes ++ hex_literal bytes.now) }
     ensures err { OnErr result (out.new ≡ out.old) }
-    ensures room { length (hex_literal bytes.now) ≤ out.old.spare →
-        IsOk result × (out.new.spare + length (hex_literal bytes.now) ≡ out.old.spare) }
+    ensures room { TakesRoom result out.old.spare out.new.spare (hex_literal bytes.now) }
 {
     let _spare = out.spare();
     let Some(length) = any_hexadecimal_length(bytes) else {

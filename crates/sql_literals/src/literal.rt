@@ -1,6 +1,7 @@
 //! Literals of cells.
-ghost use Rattle.std.specs.Prelude.{◌≡◌, ◌↔◌, ◌+◌, ◌≤◌, ◌++◌, length, true, false, is_ok, IfSome, IfOk, IsOk, OnOk, OnErr, IsErrOf, option_copied};
+ghost use Rattle.std.specs.Prelude.{◌≡◌, ◌↔◌, ◌≤◌, ◌++◌, length, true, false, is_ok, IfSome, IfOk, OnOk, OnErr, IsErrOf, option_copied};
 ghost use Rattle.sql_cells.specs.Literal.{literal, has_literal};
+ghost use Rattle.sql_literals.specs.Room.{TakesRoom};
 
 use crate::converted::{converted_into, converted_length};
 use crate::hexadecimal::{hexadecimal_into, hexadecimal_length};
@@ -55,8 +56,7 @@ pub fn cell_length(kind: CellKind, cell: Option<&[u8]>) -> Result<usize, NotANum
 fn bytes_into(bytes: &[u8], out: &mut Buffer) -> Result<(), OutOfMemory>
     ensures ok { OnOk result (out.new.bytes ≡ out.old.bytes ++ bytes.now) }
     ensures err { OnErr result (out.new ≡ out.old) }
-    ensures room { length bytes.now ≤ out.old.spare →
-        IsOk result × (out.new.spare + length bytes.now ≡ out.old.spare) }
+    ensures room { TakesRoom result out.old.spare out.new.spare bytes.now }
 {
     out.reserve(bytes.len())?;
     out.push(bytes);
@@ -79,9 +79,8 @@ pub fn cell_into(kind: CellKind, cell: Option<&[u8]>, out: &mut Buffer) -> Resul
     ensures out_of_memory { IsErrOf result CellFault.OutOfMemory →
         has_literal kind (option_copied cell.entry) ≡ true }
     ensures err { OnErr result (out.new ≡ out.old) }
-    ensures room { let size = length (literal kind (option_copied cell.entry)) in
-        has_literal kind (option_copied cell.entry) ≡ true → size ≤ out.old.spare →
-        IsOk result × (out.new.spare + size ≡ out.old.spare) }
+    ensures room { has_literal kind (option_copied cell.entry) ≡ true →
+        TakesRoom result out.old.spare out.new.spare (literal kind (option_copied cell.entry)) }
 {
     let appended = match (kind, cell) {
         (_, None) => bytes_into(b"NULL", out),

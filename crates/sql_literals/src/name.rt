@@ -1,7 +1,8 @@
 //! Quoted names.
-ghost use Rattle.std.specs.Prelude.{◌≡◌, ◌+◌, ◌≤◌, ◌^◌, ◌++◌, length, IsOk, OnOk, OnErr, MatchOption};
+ghost use Rattle.std.specs.Prelude.{◌≡◌, ◌+◌, ◌≤◌, ◌^◌, ◌++◌, length, OnOk, OnErr, MatchOption};
 ghost use Rattle.std.specs.List.{flat_map};
 ghost use Rattle.sql_cells.specs.Name.{name_byte, quoted_name};
+ghost use Rattle.sql_literals.specs.Room.{TakesRoom};
 
 use plain_data::{Buffer, OutOfMemory};
 
@@ -43,8 +44,7 @@ fn push_name(name: &[u8], out: &mut Buffer)
 pub fn name_into(name: &[u8], out: &mut Buffer) -> Result<(), OutOfMemory>
     ensures ok { OnOk result (out.new.bytes ≡ out.old.bytes ++ quoted_name name.now) }
     ensures err { OnErr result (out.new ≡ out.old) }
-    ensures room { length (quoted_name name.now) ≤ out.old.spare →
-        IsOk result × (out.new.spare + length (quoted_name name.now) ≡ out.old.spare) }
+    ensures room { TakesRoom result out.old.spare out.new.spare (quoted_name name.now) }
 {
     let _spare = out.spare();
     let Some(length) = name_length(name) else {

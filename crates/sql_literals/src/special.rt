@@ -1,13 +1,13 @@
 //! Special bytes, which a text literal writes after a backslash, and the runs between them.
-ghost use Rattle.std.specs.Prelude.{◌≡◌, ◌+◌, ◌≤◌, ◌==◌, length, map, bit_or, count_by, take, drop};
-ghost use Rattle.sql_cells.specs.Literal.{is_special, letter_of};
-ghost use Rattle.sql_literals.specs.Runs.{PlainRun, marks};
+ghost use Rattle.std.specs.Prelude.{◌≡◌, ◌+◌, ◌≤◌, ◌==◌, nat_lt, length, map, bit_or, count_by, take, drop};
+ghost use Rattle.sql_cells.specs.Literal.{is_special};
+ghost use Rattle.sql_literals.specs.Runs.{PlainRun, marks, is_suspect};
 ghost use lib.Lanes.{mask_l, zip2};
 
 use std::simd::prelude::*;
 
 // 1 at each special byte.
-pub(crate) static MARKS: [u8; 256] = [
+static MARKS: [u8; 256] = [
     1, 0, 0, 0, 0, 0, 0, 0, 0, 0, 1, 0, 0, 1, 0, 0, 0, 0, 0, 0, 0, 0, 0, 0, 0, 0, 1, 0, 0, 0, 0, 0,
     0, 0, 1, 0, 0, 0, 0, 1, 0, 0, 0, 0, 0, 0, 0, 0, 0, 0, 0, 0, 0, 0, 0, 0, 0, 0, 0, 0, 0, 0, 0, 0,
     0, 0, 0, 0, 0, 0, 0, 0, 0, 0, 0, 0, 0, 0, 0, 0, 0, 0, 0, 0, 0, 0, 0, 0, 0, 0, 0, 0, 1, 0, 0, 0,
@@ -19,23 +19,10 @@ pub(crate) static MARKS: [u8; 256] = [
 ];
 
 #[inline]
-pub(crate) fn is_special(byte: u8) -> bool
+fn is_special(byte: u8) -> bool
     ensures { result ≡ is_special byte }
 {
     byte == 0 || byte == 10 || byte == 13 || byte == 26 || byte == 34 || byte == 39 || byte == 92
-}
-
-#[inline]
-pub(crate) fn letter_of(byte: u8) -> u8
-    ensures { result ≡ letter_of byte }
-{
-    match byte {
-        0 => b'0',
-        b'\n' => b'n',
-        b'\r' => b'r',
-        26 => b'Z',
-        _ => byte,
-    }
 }
 
 #[inline(always)]
@@ -44,6 +31,15 @@ fn equal_to(lanes: u8x16, byte: u8) -> u8x16
 {
     lanes
         .simd_eq(u8x16::splat(byte))
+        .select(u8x16::splat(255), u8x16::splat(0))
+}
+
+#[inline(always)]
+fn below(lanes: u8x16, byte: u8) -> u8x16
+    ensures { result ≡ marks (λ lane. nat_lt lane byte) lanes }
+{
+    lanes
+        .simd_lt(u8x16::splat(byte))
         .select(u8x16::splat(255), u8x16::splat(0))
 }
 
@@ -72,6 +68,27 @@ fn special_bits(lanes: u8x16) -> u64
     ensures { result ≡ mask_l (map is_special lanes) }
 {
     let marks = specials(lanes);
+    marks.simd_eq(u8x16::splat(255)).to_bitmask()
+}
+
+#[inline(always)]
+#[tactic(auto, using(crate::proofs::Marks::either_marks))]
+fn suspects(lanes: u8x16) -> u8x16
+    ensures { result ≡ marks is_suspect lanes }
+{
+    let marks = either(below(lanes, 32), equal_to(lanes, 34));
+    let marks = either(marks, equal_to(lanes, 39));
+    either(marks, equal_to(lanes, 92))
+}
+
+// A bit for each of 16 bytes, the first of them the lowest: whether it is suspect, as every special
+// byte is and few others are.
+#[inline(always)]
+pub(crate) fn suspect_bits(bytes: &[u8], at: usize) -> u64
+    requires { at + 16 ≤ length bytes.now }
+    ensures { result ≡ 0 → PlainRun bytes.now at (at + 16) }
+{
+    let marks = suspects(u8x16::from_slice(&bytes[at..]));
     marks.simd_eq(u8x16::splat(255)).to_bitmask()
 }
 

@@ -1,14 +1,13 @@
 //! Text between single quotes.
-ghost use Rattle.std.specs.Prelude.{◌≡◌, ◌+◌, ◌<◌, ◌≤◌, ◌^◌, ◌++◌, length, IsOk, OnOk, OnErr, MatchOption};
+ghost use Rattle.std.specs.Prelude.{◌≡◌, ◌+◌, ◌-◌, ◌<◌, ◌≤◌, ◌^◌, ◌++◌, length, take, drop, true, IsOk, OnOk, OnErr, MatchOption};
 ghost use Rattle.std.specs.List.{flat_map};
 ghost use Rattle.sql_cells.specs.Literal.{escaped_byte, text_literal};
+ghost use Rattle.sql_literals.specs.Room.{TakesRoom};
+ghost use Rattle.sql_literals.specs.Runs.{AppendsEscaped, PlainRun};
 
-use crate::dense::{CHUNK, push_dense};
-use crate::special::{is_special, letter_of, plain_until, special_count};
+use crate::dense::{CHUNK, push_dense, push_few};
+use crate::special::{special_count, suspect_bits};
 use plain_data::{Buffer, OutOfMemory};
-
-// A run of fewer bytes is short.
-const LONG_RUN: usize = 16;
 
 // How many bytes the literal of a text of at most 64 MiB has.
 #[tactic(auto, using(crate::proofs::Growth::quoted_length))]
@@ -32,66 +31,100 @@ pub fn text_length_checked(bytes: &[u8]) -> Option<usize>
         .checked_add(2)
 }
 
-#[inline]
-fn push_escaped_byte(byte: u8, out: &mut Buffer)
-    requires { length (escaped_byte byte) ≤ out.old.spare }
-    ensures bytes { out.new.bytes ≡ out.old.bytes ++ escaped_byte byte }
-    ensures spare { out.new.spare + length (escaped_byte byte) ≡ out.old.spare }
+// Whether the bytes from a place on, 16 of them at most, are known to be plain. It looks at the last
+// 16 bytes.
+#[inline(always)]
+fn is_plain_end(bytes: &[u8], from: usize) -> bool
+    requires within { from ≤ length bytes.now }
+    requires short { length bytes.now ≤ from + 16 }
+    ensures { result ≡ true → PlainRun bytes.now from (length bytes.now) }
 {
-    if is_special(byte) {
-        out.push_byte(b'\\');
-        out.push_byte(letter_of(byte));
+    if bytes.len() < 16 {
+        return false;
+    }
+    suspect_bits(bytes, bytes.len() - 16) == 0
+}
+
+// Up to where the bytes from a place on are known to be plain: 16 of them at a time, or all.
+#[inline(always)]
+fn known_until(bytes: &[u8], from: usize) -> usize
+    requires { from ≤ length bytes.now }
+    ensures { PlainRun bytes.now from result }
+{
+    let mut seen = from;
+    'wide: while bytes.len() - seen >= 16 {
+        if suspect_bits(bytes, seen) != 0 {
+            return seen;
+        }
+        seen += 16;
+    }
+    if is_plain_end(bytes, seen) {
+        return bytes.len();
+    }
+    seen
+}
+
+// Appends a run of plain bytes as it is.
+#[inline(always)]
+fn push_plain(bytes: &[u8], from: usize, to: usize, out: &mut Buffer)
+    requires plain { PlainRun bytes.now from to }
+    requires fits { length (flat_map escaped_byte (drop from bytes.now)) ≤ out.old.spare }
+    ensures { AppendsEscaped (take (to - from) (drop from bytes.now)) out.old out.new }
+{
+    if from < to {
+        out.push(&bytes[from..to]);
+    }
+}
+
+// Up to where bytes are escaped one by one, where at least 16 are left: all of one chunk where several
+// of these may be special, and else these.
+#[inline(always)]
+fn dense_until(bytes: &[u8], from: usize) -> usize
+    requires { from + 16 ≤ length bytes.now }
+    ensures onward { from < result }
+    ensures within { result ≤ length bytes.now }
+    ensures short { result ≤ from + 128 }
+{
+    if suspect_bits(bytes, from).count_ones() > 1 {
+        from + CHUNK.min(bytes.len() - from)
     } else {
-        out.push_byte(byte);
+        from + 16
     }
 }
 
-// Appends the bytes after a run escaped, 128 of them at most.
-#[inline]
-fn push_few(bytes: &[u8], out: &mut Buffer)
-    requires short { length bytes.now ≤ 128 }
-    requires fits { length (flat_map escaped_byte bytes.now) ≤ out.old.spare }
-    ensures bytes { out.new.bytes ≡ out.old.bytes ++ flat_map escaped_byte bytes.now }
-    ensures spare { out.new.spare + length (flat_map escaped_byte bytes.now) ≡ out.old.spare }
+// Appends what comes after a run escaped, where there is more, and answers up to where.
+#[inline(always)]
+fn push_special(bytes: &[u8], from: usize, out: &mut Buffer) -> usize
+    requires within { from ≤ length bytes.now }
+    requires fits { length (flat_map escaped_byte (drop from bytes.now)) ≤ out.old.spare }
+    ensures onward { from < length bytes.now → from < result }
+    ensures within { result ≤ length bytes.now }
+    ensures low { from ≤ result }
+    ensures appends { AppendsEscaped (take (result - from) (drop from bytes.now)) out.old out.new }
 {
-    match bytes {
-        [] => (),
-        [byte] => push_escaped_byte(*byte, out),
-        _ => push_dense(bytes, out),
+    if from == bytes.len() {
+        return from;
+    }
+    if bytes.len() - from < 16 {
+        push_few(&bytes[from..], out);
+        bytes.len()
+    } else {
+        let end = dense_until(bytes, from);
+        push_dense(&bytes[from..end], out);
+        end
     }
 }
 
-// Up to where the bytes after a run are gone through one by one: where special bytes are near to
-// one another a chunk of them, and else the byte that ends the run.
-#[inline]
-fn dense_until(bytes: &[u8], to: usize, are_near: bool) -> usize
-    requires { to ≤ length bytes.now }
-    ensures low { to ≤ result }
-    ensures high { result ≤ length bytes.now }
-    ensures short { result ≤ to + 128 }
-    ensures onward { to < length bytes.now → to < result }
-{
-    let size = if are_near { CHUNK } else { 1 };
-    to + size.min(bytes.len() - to)
-}
-
-// Appends runs of plain bytes whole, and escapes what comes after each. Special bytes are near to
-// one another once two runs were short, so that the two at the end of a line aren't.
+// Appends the bytes escaped: runs of plain bytes whole, and what comes after each over the table.
 fn push_escaped(bytes: &[u8], out: &mut Buffer)
     requires { length (flat_map escaped_byte bytes.now) ≤ out.old.spare }
-    ensures bytes { out.new.bytes ≡ out.old.bytes ++ flat_map escaped_byte bytes.now }
-    ensures spare { out.new.spare + length (flat_map escaped_byte bytes.now) ≡ out.old.spare }
+    ensures { AppendsEscaped bytes.now out.old out.new }
 {
     let mut done = 0;
-    let mut was_short = false;
     'runs: while done < bytes.len() {
-        let to = plain_until(bytes, done);
-        out.push(&bytes[done..to]);
-        let is_short = to - done < LONG_RUN;
-        let end = dense_until(bytes, to, was_short && is_short);
-        push_few(&bytes[to..end], out);
-        was_short = is_short;
-        done = end;
+        let to = known_until(bytes, done);
+        push_plain(bytes, done, to, out);
+        done = push_special(bytes, to, out);
     }
 }
 
@@ -138,8 +171,7 @@ pub(crate) fn push_text(bytes: &[u8], out: &mut Buffer)
 pub(crate) fn text_into(bytes: &[u8], out: &mut Buffer) -> Result<(), OutOfMemory>
     ensures ok { OnOk result (out.new.bytes ≡ out.old.bytes ++ text_literal bytes.now) }
     ensures err { OnErr result (out.new ≡ out.old) }
-    ensures room { length (text_literal bytes.now) ≤ out.old.spare →
-        IsOk result × (out.new.spare + length (text_literal bytes.now) ≡ out.old.spare) }
+    ensures room { TakesRoom result out.old.spare out.new.spare (text_literal bytes.now) }
 {
     reserve_text(bytes, 0, out)?;
     push_text(bytes, out);

@@ -1,4 +1,4 @@
-// The cell of the literal in front.
+//! The cell of the literal in front.
 ghost use Rattle.std.specs.Prelude.{◌≡◌, ◌+◌, ◌≤◌, ℕ, take, IfOk, IsErrOf};
 ghost use Rattle.hex.specs.Hex.{decode_pairs};
 ghost use Rattle.grammar.specs.Language.{Longest, Absent};

@@ -1,4 +1,4 @@
-// Readers of converted texts.
+//! Readers of converted texts.
 ghost use Rattle.grammar.specs.Language.{Reads};
 ghost use Rattle.sql_cells.specs.Spelling.{OpenedConverted, Converted};
 

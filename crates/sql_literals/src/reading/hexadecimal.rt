@@ -1,4 +1,4 @@
-// Readers of hexadecimal literals.
+//! Readers of hexadecimal literals.
 ghost use Rattle.std.specs.Prelude.{◌≡◌};
 ghost use Rattle.hex.specs.Hex.{is_hex_digit};
 ghost use Rattle.grammar.specs.Language.{Reads, Many};

@@ -1,4 +1,4 @@
-// The reader of literals of every kind.
+//! The reader of literals of every kind.
 ghost use Rattle.grammar.specs.Language.{Reads};
 ghost use Rattle.sql_cells.specs.Spelling.{Null, Literal};
 

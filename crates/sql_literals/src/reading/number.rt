@@ -1,4 +1,4 @@
-// Readers of numbers: an optional minus, digits, and maybe a point and digits.
+//! Readers of numbers: an optional minus, digits, and maybe a point and digits.
 ghost use Rattle.std.specs.Prelude.{Ok};
 ghost use Rattle.grammar.specs.Language.{Reads, Then};
 ghost use Rattle.sql_cells.specs.Number.{Digits, Sign, Point, Fraction, Number};

@@ -1,4 +1,4 @@
-// The longest literal in front.
+//! The longest literal in front.
 ghost use Rattle.grammar.specs.Language.{Longest, Skips, Many};
 ghost use Rattle.sql_cells.specs.Number.{Fraction, Number};
 ghost use Rattle.sql_cells.specs.Spelling.{Quoted, Text, Literal};

@@ -1,4 +1,4 @@
-// Readers of strings: parts from quote to quote, one after another.
+//! Readers of strings: parts from quote to quote, one after another.
 ghost use Rattle.std.specs.Prelude.{◌≡◌};
 ghost use Rattle.grammar.specs.Language.{Reads, Many};
 ghost use Rattle.sql_cells.specs.Spelling.{is_letter, Inner, Opened, Quoted, Text};
