@@ -1,4 +1,4 @@
--- The heads of the texts that SHOW CREATE gives (MySQL 8.0 Reference Manual, 15.1.12 "CREATE DATABASE" and the sections on the other CREATE statements).
+-- Heads of the texts that SHOW CREATE gives (MySQL 8.0 Reference Manual, 15.1.12 "CREATE DATABASE" and the other CREATE statements).
 use Rattle.std.specs.Prelude.{◌≡◌, ℕ, true, false, if◌then◌else◌, Bool, List, [], ◌∷◌, codes, Option, Some, None}
 use Rattle.std.specs.Option.{option_map, option_or, option_and_then}
 use Rattle.object_forms.specs.Token.{Token, is_word, is_mark, past_gaps, tokens}
@@ -38,7 +38,7 @@ abbrev pub after : (Token → Bool) → List Token → Option (List Token)
 after test [] = None
 after test (token ∷ rest) = if test token then Some rest else None
 
--- the same past white space and comments
+-- the tokens after a word, which is given in lower case, past white space and comments
 abbrev pub after_word : List ℕ → List Token → Option (List Token)
 after_word lower tokens = after (is_word lower) (past_gaps tokens)
 
@@ -52,6 +52,7 @@ name_of (word bytes) = Some bytes
 name_of (quoted_name bytes) = Some bytes
 name_of token = None
 
+-- a name at the very front, and the tokens after it
 abbrev pub name_at : List Token → Option (Found (List ℕ))
 name_at [] = None
 name_at (token ∷ rest) = option_map (λ bytes. record { value = bytes; rest = rest }) (name_of token)
@@ -83,10 +84,11 @@ abbrev pub making_after : Found Kind → Option (Found Making)
 making_after kind = option_map (λ path. record { value = record { kind = kind.value; path = path.value }; rest = path.rest })
     (option_or (option_and_then path_in (after_exists kind.rest)) (path_in kind.rest))
 
--- The head: the word CREATE, tokens up to the first word that says a kind, that word, and the name.
+-- the head: the word CREATE, tokens up to the first word that says a kind, that word, and the name.
 abbrev pub head_in : List Token → Option (Found Making)
 head_in tokens = option_and_then making_after (option_and_then kind_in (after (is_word (codes "create")) tokens))
 
+-- the head of a text, and the tokens after it
 abbrev pub head : List ℕ → Option (Found Making)
 head text = head_in (tokens text)
 
@@ -103,6 +105,7 @@ abbrev pub after_on : List Token → Option (List Token)
 after_on [] = None
 after_on (token ∷ rest) = if is_word (codes "on") token then Some rest else after_on rest
 
+-- whether the kind is that of triggers
 abbrev pub is_trigger : Kind → Bool
 is_trigger Schema = false
 is_trigger Table = false
@@ -112,6 +115,7 @@ is_trigger View = false
 is_trigger Trigger = true
 is_trigger Event = false
 
+-- whether the kind is that of tables
 abbrev pub is_table : Kind → Bool
 is_table Schema = false
 is_table Table = true
@@ -125,5 +129,6 @@ is_table Event = false
 abbrev pub table_of : Found Making → Option Path
 table_of found = if is_trigger found.value.kind then option_map (λ path. path.value) (option_and_then path_in (after_on found.rest)) else None
 
+-- the table that a text names for its trigger; none where the text makes no trigger or no name stands after the first word ON
 abbrev pub trigger_table : List ℕ → Option Path
 trigger_table text = option_and_then table_of (head text)

@@ -13,7 +13,7 @@ token_span count text = record { before = length text - length (left_after count
 abbrev pub count_before : List Token → List Token → ℕ
 count_before all rest = length all - length rest - 1
 
--- Where the object's name stands in a text with a head, as it is spelled, with its backquotes: it is the head's last token.
+-- where the object's name stands in a text with a head, as it is spelled, with its backquotes: it is the head's last token
 abbrev pub name_span : List ℕ → Option Span
 name_span text = option_map (λ found. token_span (count_before (tokens text) found.rest) text) (head text)
 

@@ -19,6 +19,7 @@ pub record Enclosed : Type 0 where
   pub inner : List Token
   pub after : List Token
 
+-- one more token in front of those up to the mark, where the mark was found
 abbrev pub onto_inner : Token → Option Enclosed → Option Enclosed
 onto_inner token found = option_map (λ found. record { inner = token ∷ found.inner; after = found.after }) found
 
@@ -42,10 +43,11 @@ name_value [] = []
 name_value (byte ∷ []) = byte ∷ []
 name_value (byte ∷ next ∷ bytes) = if byte == 96 && next == 96 then 96 ∷ name_value bytes else byte ∷ name_value (next ∷ bytes)
 
+-- a letter of ASCII
 abbrev pub is_letter : ℕ → Bool
 is_letter byte = (nat_le 65 byte && nat_le byte 90) || (nat_le 97 byte && nat_le byte 122)
 
--- `integer` is another word for `int`
+-- the type with this word, in lower case: `integer` is another word for `int`
 abbrev pub type_named : List ℕ → List ℕ
 type_named lower = if bytes_eq lower (codes "integer") then codes "int" else lower
 
@@ -54,6 +56,7 @@ abbrev pub type_at : List Token → Found (List ℕ)
 type_at (word bytes ∷ rest) = record { value = type_named (map to_ascii_lowercase (take_while is_letter bytes)); rest = rest }
 type_at tokens = record { value = []; rest = tokens }
 
+-- the word, which is given in lower case, stands somewhere, in any case
 abbrev pub has_word : List ℕ → List Token → Bool
 has_word lower tokens = list_any (is_word lower) tokens
 
@@ -61,7 +64,7 @@ has_word lower tokens = list_any (is_word lower) tokens
 abbrev pub after_generated : List Token → Option (List Token)
 after_generated tokens = option_and_then (after_word (codes "as")) (option_and_then (after_word (codes "always")) (after (is_word (codes "generated")) tokens))
 
--- these words stand somewhere
+-- the words GENERATED ALWAYS AS stand somewhere
 abbrev pub has_generated : List Token → Bool
 has_generated [] = false
 has_generated (token ∷ rest) = is_some (after_generated (token ∷ rest)) || has_generated rest
@@ -71,12 +74,14 @@ pub record ColumnItem : Type 0 where
   pub column : Column
   pub rest : List Token
 
+-- the column with the name that is spelled so, and what was found at its type word
 abbrev pub column_item : List ℕ → Found (List ℕ) → ColumnItem
 column_item name kind = record {
   column = record { name = name_value name; data_type = kind.value; unsigned = has_word (codes "unsigned") kind.rest; generated = has_generated kind.rest };
   rest = kind.rest;
 }
 
+-- a column that begins at the very front, with its name between backquotes
 abbrev pub column_at : List Token → Option ColumnItem
 column_at (quoted_name bytes ∷ rest) = Some (column_item bytes (type_at (past_spaces rest)))
 column_at tokens = None
@@ -93,9 +98,11 @@ after_primary item = option_and_then (after_word (codes "key")) (after (is_word 
 abbrev pub key_parts : List Token → Option (List (List Token))
 key_parts item = option_map (λ found. parts 0 found.inner) (option_and_then enclosed_in (after_primary item))
 
+-- a digit of ASCII
 abbrev pub is_digit : ℕ → Bool
 is_digit byte = nat_le 48 byte && nat_le byte 57
 
+-- a word of digits alone
 abbrev pub is_number : Token → Bool
 is_number (word bytes) = list_all is_digit bytes
 is_number token = false
@@ -104,6 +111,7 @@ is_number token = false
 abbrev pub after_length : List Token → Option (List Token)
 after_length tokens = option_and_then (λ rest. after (is_mark 41) (past_gaps rest)) (option_and_then (λ rest. after is_number (past_gaps rest)) (after (is_mark 40) (past_gaps tokens)))
 
+-- what was found, or else the tokens as they were
 abbrev pub or_same : List Token → Option (List Token) → List Token
 or_same tokens None = tokens
 or_same tokens (Some rest) = rest
@@ -112,6 +120,7 @@ or_same tokens (Some rest) = rest
 abbrev pub past_direction : List Token → List Token
 past_direction tokens = or_same tokens (option_or (after_word (codes "asc") tokens) (after_word (codes "desc") tokens))
 
+-- no token is left
 abbrev pub is_ended : List Token → Bool
 is_ended [] = true
 is_ended (token ∷ rest) = false
@@ -121,6 +130,7 @@ abbrev pub part_at : List Token → Option (List ℕ)
 part_at (quoted_name bytes ∷ rest) = if is_ended (past_gaps (past_direction (or_same rest (after_length rest)))) then Some (name_value bytes) else None
 part_at tokens = None
 
+-- the name of a part of a key, past white space and comments
 abbrev pub part_name : List Token → Option (List ℕ)
 part_name part = part_at (past_gaps part)
 
@@ -129,6 +139,7 @@ abbrev pub only_name : List (List Token) → Option (List ℕ)
 only_name (part ∷ []) = part_name part
 only_name parts = None
 
+-- the word of an integer type, in lower case
 abbrev pub is_integer : List ℕ → Bool
 is_integer kind = bytes_eq kind (codes "tinyint") || bytes_eq kind (codes "smallint") || bytes_eq kind (codes "mediumint") || bytes_eq kind (codes "int") || bytes_eq kind (codes "bigint")
 
@@ -141,7 +152,7 @@ abbrev pub primary : List (List Token) → Option (List (List Token))
 primary [] = None
 primary (item ∷ items) = option_or (key_parts item) (primary items)
 
--- Which column is the key: the only one of PRIMARY KEY, where it is plain and an integer.
+-- which column is the key: the only one of PRIMARY KEY, where it is plain and an integer.
 abbrev pub key_of : List (List Token) → List Column → Option ℕ
 key_of items columns = option_and_then (λ name. position (is_key name) columns) (option_and_then only_name (primary items))
 
@@ -150,6 +161,7 @@ abbrev pub bare_at : List Token → Option (List ℕ)
 bare_at (quoted_name bytes ∷ rest) = if is_ended (past_gaps rest) then Some (name_value bytes) else None
 bare_at tokens = None
 
+-- the name of a part that is a name between backquotes and nothing else, past white space and comments
 abbrev pub bare_name : List Token → Option (List ℕ)
 bare_name part = bare_at (past_gaps part)
 
@@ -170,7 +182,7 @@ abbrev pub part_indices : List Column → List (List Token) → Option (List ℕ
 part_indices columns [] = Some []
 part_indices columns (part ∷ rest) = onto_indices (part_index columns part) (part_indices columns rest)
 
--- Which columns are the key: those that PRIMARY KEY names, where each of its parts is a bare name of a column.
+-- which columns are the key: those that PRIMARY KEY names, where each of its parts is a bare name of a column.
 abbrev pub key_columns_of : List (List Token) → List Column → Option (List ℕ)
 key_columns_of items columns = option_and_then (part_indices columns) (primary items)
 
@@ -178,6 +190,7 @@ key_columns_of items columns = option_and_then (part_indices columns) (primary i
 abbrev pub option_at : List ℕ → List Token → Option (List Token)
 option_at lower tokens = option_and_then (after (is_mark 61)) (after (is_word lower) tokens)
 
+-- the word at the very front
 abbrev pub word_at : List Token → Option (List ℕ)
 word_at (word bytes ∷ rest) = Some bytes
 word_at tokens = None
@@ -186,7 +199,7 @@ word_at tokens = None
 abbrev pub engine_at : List Token → Option (List ℕ)
 engine_at tokens = option_and_then word_at (option_at (codes "engine") tokens)
 
--- the first one
+-- the first word after an `ENGINE=` with one
 abbrev pub engine_in : List Token → Option (List ℕ)
 engine_in [] = None
 engine_in (token ∷ rest) = option_or (engine_at (token ∷ rest)) (engine_in rest)
@@ -199,6 +212,7 @@ pub record TableShape : Type 0 where
   pub engine : List ℕ
   pub after : List Token
 
+-- there are from 1 to 65,535 columns, and all their names are UTF-8
 abbrev pub columns_are : List Column → Bool
 columns_are columns = nat_le 1 (length columns) && nat_le (length columns) 65535 && list_all (λ column. is_utf8 column.name) columns
 
@@ -206,6 +220,7 @@ columns_are columns = nat_le 1 (length columns) && nat_le (length columns) 65535
 abbrev pub plain_shape : TableShape → Shape
 plain_shape shape = record { columns = map (λ column_item. column_item.column) shape.columns; key = shape.key; engine = shape.engine }
 
+-- the shape of a table with these items and columns, where the columns may be and an engine is told after the parenthesis
 abbrev pub shape_of_items : List (List Token) → List ColumnItem → List Token → Option TableShape
 shape_of_items items columns after =
     if columns_are (map (λ column_item. column_item.column) columns)
@@ -218,6 +233,7 @@ shape_of_items items columns after =
     }) (engine_in after)
     else None
 
+-- the shape of a table with this in its parenthesis and after it
 abbrev pub shape_in : Enclosed → Option TableShape
 shape_in found = shape_of_items (parts 0 found.inner) (filter_map column_of (parts 0 found.inner)) found.after
 
@@ -225,11 +241,11 @@ shape_in found = shape_of_items (parts 0 found.inner) (filter_map column_of (par
 abbrev pub items_after : Found Making → Option Enclosed
 items_after found = if is_table found.value.kind then enclosed_in found.rest else None
 
--- The shape of a table's text: the items in the parenthesis after its head, and the engine after that.
+-- the shape of a table's text: the items in the parenthesis after its head, and the engine after that.
 abbrev pub shape : List ℕ → Option TableShape
 shape text = option_and_then shape_in (option_and_then items_after (head text))
 
--- The indices among the shape's columns, in the key's order, that the first item PRIMARY KEY (..) of a table's text names; none where a part is more than a bare name of a column.
+-- the indices of the columns that PRIMARY KEY of a table's text names, in its order; none where a part is more than a bare name of a column
 abbrev pub key_columns : List ℕ → Option (List ℕ)
 key_columns text = option_and_then (λ shape. shape.key_columns) (shape text)
 
@@ -242,6 +258,7 @@ abbrev pub counter_at : List Token → ℕ
 counter_at (word bytes ∷ rest) = if nat_le 1 (length (take_while is_digit bytes)) then min (leading_number bytes) (2 ^ 64) else 1
 counter_at tokens = 1
 
+-- the number that was found, or else the later one
 abbrev pub counter_or : Option ℕ → ℕ → ℕ
 counter_or (Some found) later = found
 counter_or None later = later
@@ -250,11 +267,12 @@ counter_or None later = later
 abbrev pub counter_found : List Token → Option ℕ
 counter_found tokens = option_map counter_at (option_at (codes "auto_increment") tokens)
 
--- the first one, and 1 where there is none
+-- the number after the first `AUTO_INCREMENT=`, and 1 where there is none
 abbrev pub counter_in : List Token → ℕ
 counter_in [] = 1
 counter_in (token ∷ rest) = counter_or (counter_found (token ∷ rest)) (counter_in rest)
 
+-- the word AUTO_INCREMENT stands in what is said of the column
 abbrev pub is_auto : ColumnItem → Bool
 is_auto column_item = has_word (codes "auto_increment") column_item.rest
 
@@ -263,8 +281,10 @@ pub record TableCounter : Type 0 where
   pub column : ℕ
   pub next : ℕ
 
+-- the counter of a table with this shape; none where no column has AUTO_INCREMENT
 abbrev pub counter_of : TableShape → Option TableCounter
 counter_of shape = option_map (λ column. record { column = column; next = counter_in shape.after }) (position is_auto shape.columns)
 
+-- the counter of a table's text; none where the text has no shape or no column has AUTO_INCREMENT
 abbrev pub counter : List ℕ → Option TableCounter
 counter text = option_and_then counter_of (shape text)

@@ -4,6 +4,7 @@ use Rattle.std.specs.List.{prefix_len}
 use Rattle.std.specs.Option.{option_map}
 use Rattle.std.specs.Char.{to_ascii_lowercase}
 
+-- a token of a text, with the bytes of a word, of a name between backquotes or of a mark
 pub data Token : Type 0 where
   -- letters, digits, `_`, `$` and bytes from 80 on, as many as stand together
   word : List ℕ → Token
@@ -32,10 +33,11 @@ is_white byte = byte == 32 || byte == 9 || byte == 10 || byte == 13
 abbrev pub is_quote : ℕ → Bool
 is_quote byte = byte == 96 || byte == 39 || byte == 34
 
+-- a size that is greater by n, where there is one
 abbrev pub more : ℕ → Option ℕ → Option ℕ
 more n size = option_map (λ m. n + m) size
 
--- How many bytes there are up to the closing quote and with it, after an opening one: a doubled quote is none, and, but for backquotes, none after a backslash.
+-- how many bytes stand up to and with the closing quote: not a doubled one, nor, but for backquotes, one after a backslash
 abbrev pub closing : ℕ → List ℕ → Option ℕ
 closing quote [] = None
 closing quote (byte ∷ []) = if byte == quote then Some 1 else None
@@ -112,6 +114,7 @@ abbrev pub is_mark : ℕ → Token → Bool
 is_mark byte (mark other) = byte == other
 is_mark byte token = false
 
+-- white space
 abbrev pub is_space : Token → Bool
 is_space white = true
 is_space token = false

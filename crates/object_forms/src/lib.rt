@@ -1,6 +1,6 @@
 //! What the texts that SHOW CREATE gives say, as definitions: tokens, heads and where their names stand, the
 //! shapes, the keys and the counters of tables; and the types of kinds, places, columns and shapes.
-//! `object_texts` reads them.
+//! `sql_tokens` and `object_texts` read them.
 #![tactic(auto)]
 
 mod kind;

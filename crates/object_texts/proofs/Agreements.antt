@@ -2,7 +2,7 @@
 use Rattle.std.proofs.Common.{◌≡◌, ℕ, ◌+◌, ◌<◌, ◌≤◌, ◌==◌, true, false, List, [], ◌∷◌, length, drop, get_or, refl, drop_of_length-le}
 use Rattle.std.specs.Char.{to_ascii_lowercase}
 use Rattle.object_texts.specs.Left.{agreement}
-use Rattle.object_texts.proofs.Quotes.{drop-at}
+use Rattle.sql_tokens.proofs.Quotes.{drop-at}
 
 pub agreement-more : (text lower : List ℕ) (at : ℕ) → at < length text → at < length lower → (to_ascii_lowercase (get_or text at 0) == get_or lower at 0) ≡ true → agreement (drop at text) (drop at lower) ≡ 1 + agreement (drop (at + 1) text) (drop (at + 1) lower)
 agreement-more text lower at a b e = rw (drop-at text at a, drop-at lower at b, e) refl

@@ -8,11 +8,11 @@ use Rattle.object_forms.specs.declared.kind.Kind.TheVariants.{Table}
 use Rattle.object_forms.specs.Head.{kind_in, kind_of}
 use Rattle.object_forms.specs.Token.{Lexeme, Token, closing, comment_end, comment_lexeme, ends_comment, first_token, is_quote, is_word, is_word_byte, more, quoted_lexeme, slash_lexeme, tokens}
 use Rattle.object_forms.specs.Token.Token.{comment, mark, quoted_name, string, unended, white, word}
-use Rattle.object_texts.proofs.Cuts.{cond_both}
+use Rattle.sql_tokens.proofs.Cuts.{cond_both}
 use Rattle.object_texts.proofs.Fronts.{first_token-append, first_token-break, is_ended, tokens-alike}
 use Rattle.object_texts.proofs.HeadFronts.{EndsLast, Reaches, from_kind, word-ended}
 use Rattle.object_texts.proofs.Longer.{IsBreak, other_quote}
-use Rattle.object_texts.proofs.Tokens.{cond_by, first_token-fits, first_token_by, tokens-cons, tokens-nil}
+use Rattle.sql_tokens.proofs.Tokens.{cond_by, first_token-fits, first_token_by, tokens-cons, tokens-nil}
 
 both_false : (b : Bool) → (b && false) ≡ false
 both_false true = refl

@@ -4,12 +4,12 @@ use Rattle.std.specs.List.{list_all}
 use Rattle.std.proofs.lemmas.Bool.{cases_lt}
 use Rattle.std.proofs.lemmas.List.{drop-append-le, drop-take}
 use Rattle.object_forms.specs.Token.{left_after}
-use Rattle.object_texts.specs.Left.{IsLeft}
+use Rattle.sql_tokens.specs.Left.{IsLeft}
 use Rattle.object_forms.specs.Token.{Lexeme, Token, first_token, tokens}
 use Rattle.object_forms.specs.Token.Token.{unended}
-use Rattle.object_texts.proofs.Cuts.{first_token-take, parted, tokens-first, tokens-front}
+use Rattle.sql_tokens.proofs.Cuts.{first_token-take, parted, tokens-first, tokens-front}
 use Rattle.object_texts.proofs.Longer.{IsBreak, Stops, break-stops, first_token-longer}
-use Rattle.object_texts.proofs.Tokens.{first_token-fits, tokens-cons, tokens-nil}
+use Rattle.sql_tokens.proofs.Tokens.{first_token-fits, tokens-cons, tokens-nil}
 use Rattle.object_texts.proofs.Utf8.{both_true}
 
 -- a token that doesn't take all that follows

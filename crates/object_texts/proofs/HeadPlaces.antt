@@ -5,14 +5,14 @@ use Rattle.grammar.specs.Language.{Begins, Refused}
 use Rattle.object_forms.specs.declared.kind.Kind.{Kind}
 use Rattle.object_forms.specs.Head.{HasHead, after, head, head_in, kind_in, name_at}
 use Rattle.object_forms.specs.Token.{left_after}
-use Rattle.object_texts.specs.Left.{IsLeft}
+use Rattle.sql_tokens.specs.Left.{IsLeft}
 use Rattle.object_forms.specs.Token.{Token, first_token, is_gap, is_word, past_gaps, tokens}
 use Rattle.object_texts.proofs.Closers.{ends-last}
-use Rattle.object_texts.proofs.Cuts.{left-all, left-read, parted}
+use Rattle.sql_tokens.proofs.Cuts.{left-all, left-read, parted}
 use Rattle.object_texts.proofs.Fronts.{tokens-alike-after, tokens-break}
 use Rattle.object_texts.proofs.HeadFronts.{EndsLast, IsFront, front-is, reaches-head}
 use Rattle.object_texts.proofs.Longer.{IsBreak}
-use Rattle.object_texts.proofs.Tokens.{tokens-cons, tokens-nil}
+use Rattle.sql_tokens.proofs.Tokens.{tokens-cons, tokens-nil}
 
 there : {A : Type 0} (found : Option A) → is_some found ≡ true → (x : A) × (found ≡ Some x)
 there None e = absurd (cc)

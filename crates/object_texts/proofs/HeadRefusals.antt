@@ -10,11 +10,11 @@ use Rattle.object_texts.specs.Left.{name_place, place_in, place_of}
 use Rattle.object_forms.specs.Token.{Lexeme, Token, closing, comment_end, comment_lexeme, first_token, is_gap, is_quote, is_white, is_word, is_word_byte, past_gaps, quoted_lexeme, slash_lexeme, tokens}
 use Rattle.object_forms.specs.Token.Token.{comment, mark, quoted_name, string, unended, white, word}
 use Rattle.object_texts.proofs.Closers.{comment-tokens, creates, quote-tokens, space-breaks}
-use Rattle.object_texts.proofs.Cuts.{parted}
+use Rattle.sql_tokens.proofs.Cuts.{parted}
 use Rattle.object_texts.proofs.HeadPlaces.{Stands, alike-head, begins-with, break-head, has-head, head-of, is_created, none-created, refused-at}
 use Rattle.object_texts.proofs.HeadFronts.{reaches-head}
 use Rattle.object_texts.proofs.Longer.{IsBreak, cond_same}
-use Rattle.object_texts.proofs.Tokens.{first_token_by, tokens-cons, tokens-nil}
+use Rattle.sql_tokens.proofs.Tokens.{first_token_by, tokens-cons, tokens-nil}
 
 slash-breaks : IsBreak 47
 slash-breaks = record { no_word = refl; no_quote = refl; no_star = refl }

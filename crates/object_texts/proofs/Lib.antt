@@ -1,6 +1,3 @@
-pub mod Quotes
-pub mod Tokens
-pub mod Cuts
 pub mod Parts
 pub mod Names
 pub mod Columns
@@ -17,4 +14,3 @@ pub mod Uncreated
 pub mod NameSteps
 pub mod NamePlaces
 pub mod Renamings
-pub mod Lefts

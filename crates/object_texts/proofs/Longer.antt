@@ -5,8 +5,8 @@ use Rattle.std.proofs.lemmas.List.{take-append-le}
 use Rattle.std.proofs.lemmas.List.Sums.{prefix_len-le-length}
 use Rattle.object_forms.specs.Token.{Lexeme, Token, closing, comment_end, comment_lexeme, ends_comment, first_token, is_quote, is_white, is_word_byte, more, quoted_lexeme, slash_lexeme, word_lexeme}
 use Rattle.object_forms.specs.Token.Token.{comment, mark, quoted_name, string, unended, white, word}
-use Rattle.object_texts.proofs.Cuts.{cond_both}
-use Rattle.object_texts.proofs.Tokens.{EndsWithin, closing-within}
+use Rattle.sql_tokens.proofs.Cuts.{cond_both}
+use Rattle.sql_tokens.proofs.Tokens.{EndsWithin, closing-within}
 
 pub cond_same : (b : Bool) → (b ≡ true → ⊥) → b ≡ false
 cond_same true never = absurd (never refl)

@@ -3,7 +3,7 @@ use Rattle.std.proofs.Common.{◌≡◌, ℕ, ◌+◌, ◌<◌, ◌==◌, Bool, 
 use Rattle.std.proofs.lemmas.List.{drop-drop}
 use Rattle.object_texts.specs.Reading.{doubled_step}
 use Rattle.object_forms.specs.Shape.{name_value}
-use Rattle.object_texts.proofs.Quotes.{drop-at}
+use Rattle.sql_tokens.proofs.Quotes.{drop-at}
 
 -- two equal backquotes stand for the first of them
 undoubled-both : (byte next : ℕ) (bytes : List ℕ) (first second : Bool) → (byte == 96) ≡ first → (next == 96) ≡ second → name_value (byte ∷ next ∷ bytes) ≡ byte ∷ name_value (drop (doubled_step (byte ∷ next ∷ bytes)) (byte ∷ next ∷ bytes))

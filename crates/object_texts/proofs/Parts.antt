@@ -2,10 +2,10 @@
 use Rattle.std.proofs.Common.{◌≡◌, ℕ, ◌+◌, ◌-◌, ◌≤◌, ◌==◌, ◌&&◌, false, List, [], ◌∷◌, ◌++◌, length, take, Option, Some, None, option_map, refl, sym, ◌∙◌, ap, arith, append_assoc}
 use Rattle.std.specs.List.{onto_first}
 use Rattle.object_forms.specs.Shape.{Enclosed, depth_after, only_name, onto_inner, parts, up_to}
-use Rattle.object_texts.specs.Left.{IsLeft}
+use Rattle.sql_tokens.specs.Left.{IsLeft}
 use Rattle.object_forms.specs.Token.{Token, is_mark, tokens}
-use Rattle.object_texts.proofs.Cuts.{cond_both, front-more}
-use Rattle.object_texts.proofs.Tokens.{cond_by, tokens-nil}
+use Rattle.sql_tokens.proofs.Cuts.{cond_both, front-more}
+use Rattle.sql_tokens.proofs.Tokens.{cond_by, tokens-nil}
 
 -- what was found after some tokens, with these in front
 abbrev pub onto_all : List Token → Option Enclosed → Option Enclosed

@@ -10,10 +10,10 @@ use Rattle.object_forms.specs.Place.{count_before, renamed, replaced, token_span
 use Rattle.object_forms.specs.Token.{Token, closing, first_token, left_after, more, quoted_lexeme, tokens}
 use Rattle.object_forms.specs.Token.Token.{quoted_name as quoted_token}
 use Rattle.object_texts.specs.Renaming.{QuotedNamesEnd, NameStands, NamesAreReplaced, NamesStand, after_place, begins_quoted, in_place}
-use Rattle.object_texts.proofs.Cuts.{parted, tokens-front}
+use Rattle.sql_tokens.proofs.Cuts.{parted, tokens-front}
 use Rattle.object_texts.proofs.Fronts.{LastStops, tokens-alike, tokens-joined}
 use Rattle.object_texts.proofs.NamePlaces.{Named, head-named}
-use Rattle.object_texts.proofs.Tokens.{cond_by, first_token-fits, tokens-cons, tokens-nil}
+use Rattle.sql_tokens.proofs.Tokens.{cond_by, first_token-fits, tokens-cons, tokens-nil}
 use Rattle.sql_cells.specs.Name.{name_byte, quoted_name}
 
 none-left : List Token

@@ -16,13 +16,13 @@ use Rattle.object_texts.specs.Left.{agreement}
 use Rattle.object_forms.specs.Token.{Lexeme, Token, closing, comment_end, comment_lexeme, first_token, is_word, is_word_byte, quoted_lexeme, slash_lexeme, tokens, word_lexeme}
 use Rattle.object_forms.specs.Token.Token.{word}
 use Rattle.object_texts.proofs.Closers.{creates-of, opens-table, table}
-use Rattle.object_texts.proofs.Cuts.{first_token-take, take_take_le}
+use Rattle.sql_tokens.proofs.Cuts.{first_token-take, take_take_le}
 use Rattle.object_texts.proofs.Fronts.{first_token-append}
 use Rattle.object_texts.proofs.HeadFronts.{Reaches, reaches-head}
 use Rattle.object_texts.proofs.HeadPlaces.{begins-with, refused-at}
 use Rattle.object_texts.proofs.HeadRefusals.{name-comes}
 use Rattle.object_texts.proofs.Longer.{cond_same}
-use Rattle.object_texts.proofs.Tokens.{cond_by, first_token_by, tokens-cons, tokens-nil}
+use Rattle.sql_tokens.proofs.Tokens.{cond_by, first_token_by, tokens-cons, tokens-nil}
 use Rattle.object_texts.proofs.Utf8.{both_true}
 
 one-more : (n : ℕ) → suc n ≡ 1 + n

@@ -4,7 +4,7 @@ use Rattle.std.proofs.Math.Seq.{drop-append-add, get_or-append_seam, take-append
 use Rattle.std.specs.Str.{is_utf8}
 use Rattle.std.proofs.lemmas.Str.{IsCharBoundary-after_ascii, IsCharBoundary-before_ascii, IsUtf8-append, IsUtf8-drop, IsUtf8-from_is_utf8, IsUtf8-nil, IsUtf8-take, is_utf8-from_IsUtf8}
 use Rattle.object_forms.specs.Shape.{name_value}
-use Rattle.object_texts.proofs.Tokens.{cond_by}
+use Rattle.sql_tokens.proofs.Tokens.{cond_by}
 
 -- text on both sides of a backquote
 pub record Sides (front back : List ℕ) : Type 0 where

@@ -1,14 +1,9 @@
--- What is left of a text after some of its tokens.
-use Rattle.std.specs.Prelude.{◌≡◌, ℕ, ◌==◌, ◌||◌, if◌then◌else◌, List, [], ◌∷◌, length, slice_index, Option, Some, None}
+-- Where a text leaves those that begin with a word, and those that go on with a name.
+use Rattle.std.specs.Prelude.{ℕ, ◌==◌, ◌||◌, if◌then◌else◌, List, [], ◌∷◌, length, slice_index, Option, Some, None}
 use Rattle.std.specs.Char.{to_ascii_lowercase}
 use Rattle.std.specs.List.{common_prefix_len}
-use Rattle.object_forms.specs.Token.{Token, left_after, tokens}
+use Rattle.object_forms.specs.Token.{Token, tokens}
 use Rattle.object_forms.specs.Token.Token.{word, quoted_name, mark, unended}
-
--- the rest of a text is what is left after some of its tokens
-pub record IsLeft (text rest : List ℕ) : Type 0 where
-  pub count : ℕ
-  pub is : left_after count text ≡ rest
 
 -- how many bytes of a word stand at the front, in any case, where the word is given in lower case
 abbrev pub agreement : List ℕ → List ℕ → ℕ
@@ -22,10 +17,11 @@ place_of byte size unended = Some (if byte == 96 || byte == 47 then size else 0)
 place_of byte size (mark other) = Some (if other == 47 then 1 else 0)
 place_of byte size token = Some 0
 
+-- the same by the tokens of a text, where none means its end
 abbrev pub place_in : ℕ → ℕ → List Token → Option ℕ
 place_in byte size [] = Some 0
 place_in byte size (token ∷ rest) = place_of byte size token
 
--- How far a text goes along where a name is to begin past white space and comments: not as far as it goes where one does.
+-- how far a text goes along where a name is to begin past white space and comments; none where one does
 abbrev pub name_place : List ℕ → Option ℕ
 name_place text = place_in (slice_index text 0) (length text) (tokens text)

@@ -26,7 +26,7 @@ pub record NameStands (text name : List ℕ) (span : Span) : Type 0 where
   pub whole : take span.before text ++ in_place text span ++ after_place text span ≡ text
   pub spells : Spells (in_place text span) name
 
--- In the place of its head's name a text has the name that the head takes.
+-- in the place of its head's name a text has the name that the head takes
 abbrev pub NamesStand : Type 0
 NamesStand =
     (text : List ℕ) (found : Making) (span : Span)
@@ -37,14 +37,14 @@ abbrev pub begins_quoted : List ℕ → Bool
 begins_quoted [] = false
 begins_quoted (byte ∷ bytes) = byte == 96
 
--- After a name that is spelled between backquotes no backquote comes.
+-- after a name that is spelled between backquotes no backquote comes
 abbrev pub QuotedNamesEnd : Type 0
 QuotedNamesEnd =
     (text : List ℕ) (span : Span)
     → name_span text ≡ Some span → begins_quoted (in_place text span) ≡ true
     → begins_quoted (after_place text span) ≡ false
 
--- With another name between backquotes in that place a text makes the same object under that name, but where a backquote comes after the place.
+-- with another name between backquotes there a text makes the same object under it, unless a backquote comes after the place
 abbrev pub NamesAreReplaced : Type 0
 NamesAreReplaced =
     (text name : List ℕ) (found : Making) (span : Span)

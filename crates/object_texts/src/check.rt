@@ -5,7 +5,7 @@ ghost use Rattle.object_forms.specs.Head.{HasHead};
 ghost use Rattle.object_texts.specs.Left.{agreement, name_place};
 
 use crate::head::kind_in;
-use crate::token::{Token, after_front_word, next_token, past_gaps};
+use sql_tokens::{Token, after_front_word, next_token, past_gaps};
 
 // How many bytes of a word stand at the front, in any case, where the word is given in lower case.
 #[tactic(auto, using(crate::proofs::Agreements::agreements))]

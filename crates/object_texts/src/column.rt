@@ -1,16 +1,17 @@
 //! The item of a column: its name, its type and what is said after it.
-ghost use Rattle.std.specs.Prelude.{◌≡◌, ◌++◌, [], ◌∷◌, true, false, map, option_map, IfOk, MatchOption};
+ghost use Rattle.std.specs.Prelude.{◌≡◌, ◌++◌, true, map, option_map, IfOk};
 ghost use Rattle.std.specs.List.{take_while};
 ghost use Rattle.std.specs.Str.{is_utf8};
 ghost use Rattle.std.specs.Char.{to_ascii_lowercase};
+ghost use Rattle.sql_tokens.specs.Reading.{tokens_of};
 ghost use Rattle.object_forms.specs.Shape.{after_generated, column_of, has_generated, has_word, is_letter, type_at, type_named, name_value};
-ghost use Rattle.object_texts.specs.Reading.{columns_in, columns_of, doubled_step, names_are, item_of, type_of};
-ghost use Rattle.object_forms.specs.Token.{past_spaces, tokens};
+ghost use Rattle.object_texts.specs.Reading.{item_columns, SomeIf, IsText, IsColumn, AreColumns, doubled_step, names_are, item_of, type_of};
+ghost use Rattle.object_forms.specs.Token.{tokens};
 
 use crate::items::next_part;
-use crate::token::{Token, after_front_word, after_word, next_token, past_spaces};
 use object_forms::{Column, ColumnList};
 use plain_data::{Bytes, Name, OutOfMemory};
+use sql_tokens::{Token, after_front_word, after_word, next_token, past_spaces};
 use std::alloc::Global;
 
 // A column as its item spells it: the name without backquotes around it, the letters of its type
@@ -29,7 +30,7 @@ fn is_letter(byte: u8) -> bool
 }
 
 // The letters that a word begins with.
-#[tactic(auto, using(crate::proofs::Quotes::prefixes))]
+#[tactic(auto, using(sql_tokens::proofs::Quotes::prefixes))]
 fn letters(word: &[u8]) -> &[u8]
     ensures { result.now ≡ take_while is_letter word.now }
 {
@@ -82,7 +83,7 @@ pub(crate) fn has_word(lower: &[u8], text: &[u8]) -> bool
 
 // What stands after the words GENERATED ALWAYS AS at the front.
 fn after_generated(text: &[u8]) -> Option<&[u8]>
-    ensures { option_map (λ rest. tokens rest.now) result ≡ after_generated (tokens text.now) }
+    ensures { tokens_of result ≡ after_generated (tokens text.now) }
 {
     after_word(
         b"as",
@@ -142,7 +143,7 @@ pub(crate) fn type_named(alloc: Global, letters: &[u8]) -> Result<Bytes, OutOfMe
 // The text that the bytes spell, where they are UTF-8.
 #[tactic(auto, using(crate::proofs::Utf8::texts))]
 fn text_of(bytes: &[u8]) -> Option<&str>
-    ensures { MatchOption result (is_utf8 bytes.now ≡ false) (λ text. (is_utf8 bytes.now ≡ true) × (text.now ≡ bytes.now)) }
+    ensures { SomeIf (is_utf8 bytes.now) (λ text. text.now ≡ bytes.now) result }
 {
     match std::str::from_utf8(bytes) {
         Ok(text) => Some(text),
@@ -152,7 +153,7 @@ fn text_of(bytes: &[u8]) -> Option<&str>
 
 // The name with each doubled backquote as one, where that is UTF-8.
 fn name_of(alloc: Global, spelled: &[u8]) -> Result<Option<Name>, OutOfMemory>
-    ensures { IfOk result (λ made. MatchOption made (is_utf8 (name_value spelled.now) ≡ false) (λ name. (is_utf8 (name_value spelled.now) ≡ true) × (name ≡ name_value spelled.now))) }
+    ensures { IfOk result (IsText (name_value spelled.now)) }
 {
     let bytes = undoubled(alloc, spelled)?;
     match text_of(bytes.as_slice()) {
@@ -163,7 +164,7 @@ fn name_of(alloc: Global, spelled: &[u8]) -> Result<Option<Name>, OutOfMemory>
 
 // The column, where its name is UTF-8.
 fn column_made(alloc: Global, declared: &Declared<'_>) -> Result<Option<Column>, OutOfMemory>
-    ensures { IfOk result (λ made. MatchOption made (names_are (columns_of (Some (item_of declared.now))) ≡ false) (λ column. (names_are (columns_of (Some (item_of declared.now))) ≡ true) × (column ∷ [] ≡ columns_of (Some (item_of declared.now))))) }
+    ensures { IfOk result (IsColumn (item_of declared.now)) }
 {
     let Some(name) = name_of(alloc, declared.name)? else {
         return Ok(None);
@@ -179,8 +180,9 @@ fn column_made(alloc: Global, declared: &Declared<'_>) -> Result<Option<Column>,
 
 // Puts the column of an item at the end, where the item has one. False where its name isn't UTF-8.
 fn add_column(alloc: Global, columns: &mut ColumnList, item: &[u8]) -> Result<bool, OutOfMemory>
-    ensures names { IfOk result (λ named. named ≡ names_are (columns_of (column_of (tokens item.now)))) }
-    ensures columns { IfOk result (λ named. named ≡ true → columns.new ≡ columns.old ++ columns_of (column_of (tokens item.now))) }
+    ensures names { IfOk result (λ named. named ≡ names_are (item_columns item.now)) }
+    ensures columns { IfOk result (λ named.
+        named ≡ true → columns.new ≡ columns.old ++ item_columns item.now) }
 {
     let Some(declared) = column_of(item) else {
         return Ok(true);
@@ -195,7 +197,7 @@ fn add_column(alloc: Global, columns: &mut ColumnList, item: &[u8]) -> Result<bo
 // The columns of the items, where all their names are UTF-8.
 #[tactic(auto, using(crate::proofs::Columns::columns))]
 pub(crate) fn columns_in(alloc: Global, items: &[u8]) -> Result<Option<ColumnList>, OutOfMemory>
-    ensures { IfOk result (λ made. MatchOption made (names_are (columns_in items.now) ≡ false) (λ columns. columns ≡ columns_in items.now)) }
+    ensures { IfOk result (AreColumns items.now) }
 {
     let mut made = ColumnList::new(alloc);
     let mut rest = items;

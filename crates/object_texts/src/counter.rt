@@ -9,7 +9,7 @@ use crate::column::{column_of, has_word};
 use crate::items::next_part;
 use crate::key::is_digit;
 use crate::table::{column_count_of, option_at, table_in};
-use crate::token::{Token, next_token};
+use sql_tokens::{Token, next_token};
 
 /// Which column of a table has AUTO_INCREMENT, and the number that comes next, at most 2^64.
 #[derive(Clone, Copy, Debug, PartialEq, Eq)]
@@ -23,7 +23,7 @@ pub struct Counter {
 const MOST: u128 = 0x1_0000_0000_0000_0000;
 
 // The digits that a word begins with.
-#[tactic(auto, using(crate::proofs::Quotes::prefixes))]
+#[tactic(auto, using(sql_tokens::proofs::Quotes::prefixes))]
 fn digits(word: &[u8]) -> &[u8]
     ensures { result.now ≡ take_while is_digit word.now }
 {

@@ -1,13 +1,13 @@
 //! Which object a text makes: its kind and its name.
-ghost use Rattle.std.specs.Prelude.{◌≡◌, option_map, option_copied, option_and_then, IfSome};
-ghost use Rattle.std.specs.Option.{option_or};
+ghost use Rattle.std.specs.Prelude.{◌≡◌, option_map, IfSome};
 ghost use Rattle.object_forms.specs.Head.{after_exists, after_on, dotted_name, head, kind_in, kind_of, making, name_in, name_of, path_in, trigger_table};
-ghost use Rattle.object_texts.specs.Left.{IsLeft};
-ghost use Rattle.object_texts.specs.Reading.{found_before, making_of, path, path_of, token_of};
+ghost use Rattle.sql_tokens.specs.Left.{IsLeft};
+ghost use Rattle.object_texts.specs.Reading.{table_path, found_by, path_after_exists, named_path, path_after_on, making_of, path_of};
+ghost use Rattle.sql_tokens.specs.Reading.{tokens_of, token_of};
 ghost use Rattle.object_forms.specs.Token.{tokens};
 
-use crate::token::{Token, after_front_word, after_mark, after_word, next_token, past_gaps};
 use object_forms::Kind;
+use sql_tokens::{Token, after_front_word, after_mark, after_word, next_token, past_gaps};
 
 /// What a text makes: the kind, the schema where one is named, and the name, both as they are
 /// spelled, without backquotes around them.
@@ -49,9 +49,9 @@ fn kind_of(token: Token<'_>) -> Option<Kind>
 }
 
 // The first word that says a kind, and what stands after it.
-#[tactic(auto, using(crate::proofs::Cuts::left))]
+#[tactic(auto, using(sql_tokens::proofs::Cuts::left))]
 pub(crate) fn kind_in(text: &[u8]) -> Option<(Kind, &[u8])>
-    ensures kind { option_map (λ kind. found_before kind.0 kind.1.now) result ≡ kind_in (tokens text.now) }
+    ensures kind { found_by (λ kind. kind) result ≡ kind_in (tokens text.now) }
     ensures left { IfSome result (λ kind. IsLeft text.now kind.1.now) }
 {
     let mut rest = text;
@@ -66,7 +66,7 @@ pub(crate) fn kind_in(text: &[u8]) -> Option<(Kind, &[u8])>
 
 // What stands after the words IF NOT EXISTS.
 fn after_exists(text: &[u8]) -> Option<&[u8]>
-    ensures { option_map (λ rest. tokens rest.now) result ≡ after_exists (tokens text.now) }
+    ensures { tokens_of result ≡ after_exists (tokens text.now) }
 {
     after_word(b"exists", after_word(b"not", after_word(b"if", text)?)?)
 }
@@ -83,7 +83,7 @@ fn name_of(token: Token<'_>) -> Option<&[u8]>
 
 // A name past white space and comments, and what stands after it.
 fn name_in(text: &[u8]) -> Option<(&[u8], &[u8])>
-    ensures { option_map (λ name. found_before name.0.now name.1.now) result ≡ name_in (tokens text.now) }
+    ensures { found_by (λ name. name.now) result ≡ name_in (tokens text.now) }
 {
     let (token, rest) = next_token(past_gaps(text))?;
     Some((name_of(token)?, rest))
@@ -91,14 +91,14 @@ fn name_in(text: &[u8]) -> Option<(&[u8], &[u8])>
 
 // A dot and a name.
 fn dotted_name(text: &[u8]) -> Option<(&[u8], &[u8])>
-    ensures { option_map (λ name. found_before name.0.now name.1.now) result ≡ dotted_name (tokens text.now) }
+    ensures { found_by (λ name. name.now) result ≡ dotted_name (tokens text.now) }
 {
     name_in(after_mark(b'.', past_gaps(text))?)
 }
 
 // A name, or a schema, a dot and a name.
 fn path_in(text: &[u8]) -> Option<(Path<'_>, &[u8])>
-    ensures { option_map (λ path. found_before (path_of path.0) path.1.now) result ≡ path_in (tokens text.now) }
+    ensures { found_by path_of result ≡ path_in (tokens text.now) }
 {
     let (first, rest) = name_in(text)?;
     match dotted_name(rest) {
@@ -121,14 +121,14 @@ fn path_in(text: &[u8]) -> Option<(Path<'_>, &[u8])>
 
 // The path after the words IF NOT EXISTS.
 fn path_after_exists(text: &[u8]) -> Option<(Path<'_>, &[u8])>
-    ensures { option_map (λ path. found_before (path_of path.0) path.1.now) result ≡ option_and_then path_in (after_exists (tokens text.now)) }
+    ensures { found_by path_of result ≡ path_after_exists (tokens text.now) }
 {
     path_in(after_exists(text)?)
 }
 
 // The path after a kind.
 fn named_path(text: &[u8]) -> Option<(Path<'_>, &[u8])>
-    ensures { option_map (λ path. found_before (path_of path.0) path.1.now) result ≡ option_or (option_and_then path_in (after_exists (tokens text.now))) (path_in (tokens text.now)) }
+    ensures { found_by path_of result ≡ named_path (tokens text.now) }
 {
     match path_after_exists(text) {
         Some(path) => Some(path),
@@ -138,7 +138,7 @@ fn named_path(text: &[u8]) -> Option<(Path<'_>, &[u8])>
 
 // The head of a text, and what stands after it.
 pub(crate) fn head_in(text: &[u8]) -> Option<(Head<'_>, &[u8])>
-    ensures { option_map (λ making. found_before (making_of making.0) making.1.now) result ≡ head text.now }
+    ensures { found_by making_of result ≡ head text.now }
 {
     let (kind, rest) = kind_in(after_front_word(b"create", text)?)?;
     let (path, rest) = named_path(rest)?;
@@ -166,7 +166,7 @@ pub fn head_of(text: &[u8]) -> Option<Head<'_>>
 
 // What stands after the first word ON.
 fn after_on(text: &[u8]) -> Option<&[u8]>
-    ensures { option_map (λ rest. tokens rest.now) result ≡ after_on (tokens text.now) }
+    ensures { tokens_of result ≡ after_on (tokens text.now) }
 {
     let mut rest = text;
     'tokens: while let Some((token, after)) = next_token(rest) {
@@ -180,7 +180,7 @@ fn after_on(text: &[u8]) -> Option<&[u8]>
 
 // The path after the first word ON.
 fn path_after_on(text: &[u8]) -> Option<Path<'_>>
-    ensures { option_map path_of result ≡ option_map (λ path. path.value) (option_and_then path_in (after_on (tokens text.now))) }
+    ensures { option_map path_of result ≡ path_after_on (tokens text.now) }
 {
     let (path, _) = path_in(after_on(text)?)?;
     Some(path)
@@ -190,7 +190,7 @@ fn path_after_on(text: &[u8]) -> Option<Path<'_>>
 /// first word ON after the head. `None` where the text makes no trigger or no name stands there.
 /// Takes no memory. (MySQL 8.0 Reference Manual, 15.1.22.)
 pub fn trigger_table(text: &[u8]) -> Option<(Option<&[u8]>, &[u8])>
-    ensures { option_map (λ table. path (option_copied table.0) table.1.now) result ≡ trigger_table text.now }
+    ensures { option_map table_path result ≡ trigger_table text.now }
 {
     let (head, rest) = head_in(text)?;
     if head.kind != Kind::Trigger {

@@ -1,29 +1,30 @@
 //! The item PRIMARY KEY, the column that is the key, and the columns that it names.
-ghost use Rattle.std.specs.Prelude.{◌≡◌, ◌<◌, ◌^◌, length, position, option_map, option_and_then, IfOk, IfSome};
+ghost use Rattle.std.specs.Prelude.{◌≡◌, ◌<◌, ◌^◌, length, position, option_and_then, IfOk, IfSome};
 ghost use Rattle.std.specs.List.{list_all};
-ghost use Rattle.object_forms.specs.Shape.{after_length, after_primary, bare_name, column_index, is_digit, is_ended, is_integer, is_key, is_number, key_columns_of, key_of, key_parts, only_name, part_index, part_indices, part_name, parts, past_direction, primary, name_value};
-ghost use Rattle.object_texts.specs.Reading.{token_of};
+ghost use Rattle.object_texts.specs.Reading.{parts_in, spelled_name};
+ghost use Rattle.object_forms.specs.Shape.{after_length, after_primary, bare_name, column_index, is_digit, is_ended, is_integer, is_key, is_number, key_columns_of, key_of, key_parts, only_name, part_index, part_indices, part_name, parts, past_direction, primary};
+ghost use Rattle.sql_tokens.specs.Reading.{tokens_of, token_of};
 ghost use Rattle.object_forms.specs.Token.{past_gaps, tokens};
 
 use crate::column::undoubled;
 use crate::items::{enclosed_in, next_part};
-use crate::token::{
-    Token, after_front_word, after_mark, after_word, next_token, past_gaps, past_spaces,
-};
 use object_forms::{Column, IndexList};
 use plain_data::OutOfMemory;
+use sql_tokens::{
+    Token, after_front_word, after_mark, after_word, next_token, past_gaps, past_spaces,
+};
 use std::alloc::Global;
 
 // What stands after the words PRIMARY KEY.
 fn after_primary(item: &[u8]) -> Option<&[u8]>
-    ensures { option_map (λ rest. tokens rest.now) result ≡ after_primary (tokens item.now) }
+    ensures { tokens_of result ≡ after_primary (tokens item.now) }
 {
     after_word(b"key", after_front_word(b"primary", past_spaces(item))?)
 }
 
 // What stands in the parenthesis of the item PRIMARY KEY (..).
 fn key_parts(item: &[u8]) -> Option<&[u8]>
-    ensures { option_map (λ inner. parts 0 (tokens inner.now)) result ≡ key_parts (tokens item.now) }
+    ensures { parts_in result ≡ key_parts (tokens item.now) }
 {
     let (inner, _) = enclosed_in(after_primary(item)?)?;
     Some(inner)
@@ -31,7 +32,7 @@ fn key_parts(item: &[u8]) -> Option<&[u8]>
 
 // The same of the first PRIMARY KEY item.
 fn primary(items: &[u8]) -> Option<&[u8]>
-    ensures { option_map (λ inner. parts 0 (tokens inner.now)) result ≡ primary (parts 0 (tokens items.now)) }
+    ensures { parts_in result ≡ primary (parts 0 (tokens items.now)) }
 {
     let mut rest = items;
     'items: loop {
@@ -74,7 +75,7 @@ fn is_number(token: Token<'_>) -> bool
 
 // What stands after a length in parentheses.
 fn after_length(text: &[u8]) -> Option<&[u8]>
-    ensures { option_map (λ rest. tokens rest.now) result ≡ after_length (tokens text.now) }
+    ensures { tokens_of result ≡ after_length (tokens text.now) }
 {
     let inner = after_mark(b'(', past_gaps(text))?;
     let (token, rest) = next_token(past_gaps(inner))?;
@@ -103,7 +104,7 @@ fn is_ended(text: &[u8]) -> bool
 
 // The name of a part of a key, as it is spelled between backquotes.
 fn part_name(part: &[u8]) -> Option<&[u8]>
-    ensures { option_map (λ name. name_value name.now) result ≡ part_name (tokens part.now) }
+    ensures { spelled_name result ≡ part_name (tokens part.now) }
 {
     let (Token::QuotedName(name), rest) = next_token(past_gaps(part))? else {
         return None;
@@ -115,7 +116,7 @@ fn part_name(part: &[u8]) -> Option<&[u8]>
 // The name of the only part.
 #[tactic(auto, using(crate::proofs::Parts::part_by_part))]
 fn only_name(inner: &[u8]) -> Option<&[u8]>
-    ensures { option_map (λ name. name_value name.now) result ≡ only_name (parts 0 (tokens inner.now)) }
+    ensures { spelled_name result ≡ only_name (parts 0 (tokens inner.now)) }
 {
     let (part, None) = next_part(inner) else {
         return None;
@@ -125,7 +126,8 @@ fn only_name(inner: &[u8]) -> Option<&[u8]>
 
 // The name of the only part of PRIMARY KEY.
 fn key_name(items: &[u8]) -> Option<&[u8]>
-    ensures { option_map (λ name. name_value name.now) result ≡ option_and_then only_name (primary (parts 0 (tokens items.now))) }
+    ensures { spelled_name result ≡
+        option_and_then only_name (primary (parts 0 (tokens items.now))) }
 {
     only_name(primary(items)?)
 }
@@ -181,7 +183,7 @@ pub(crate) fn key_of(
 
 // The name of a part that is nothing else, as it is spelled between backquotes.
 fn bare_name(part: &[u8]) -> Option<&[u8]>
-    ensures { option_map (λ name. name_value name.now) result ≡ bare_name (tokens part.now) }
+    ensures { spelled_name result ≡ bare_name (tokens part.now) }
 {
     let (Token::QuotedName(name), rest) = next_token(past_gaps(part))? else {
         return None;

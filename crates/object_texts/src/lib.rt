@@ -11,7 +11,6 @@ mod key;
 mod place;
 mod shape;
 mod table;
-mod token;
 
 pub use check::check_head;
 pub use counter::{Counter, counter_of};

@@ -1,41 +1,11 @@
 //! Where the name of a head stands.
 ghost use Rattle.std.specs.Prelude.{◌≡◌, ◌+◌, ◌≤◌, length, IfSome};
 ghost use Rattle.object_forms.specs.Place.{name_span};
-ghost use Rattle.object_forms.specs.Token.{left_after, tokens};
 ghost use Rattle.object_texts.specs.Renaming.{NamesAreReplaced, NamesStand, QuotedNamesEnd};
 
 use crate::head::head_in;
-use crate::token::{next_token, past_token, token_size};
 use object_forms::Span;
-
-// How many tokens a text has.
-#[tactic(auto, using(crate::proofs::Lefts::lefts))]
-fn token_count(text: &[u8]) -> usize
-    ensures { result ≡ length (tokens text.now) }
-{
-    let mut rest = text;
-    let mut count = 0;
-    'tokens: while let Some((_, after)) = next_token(rest) {
-        count += 1;
-        rest = after;
-    }
-    count
-}
-
-// What is left of a text after so many tokens.
-#[tactic(auto, using(crate::proofs::Lefts::lefts))]
-fn left_after(count: usize, text: &[u8]) -> &[u8]
-    ensures left { result.now ≡ left_after count text.now }
-    ensures within { length result.now ≤ length text.now }
-{
-    let mut rest = text;
-    let mut more = count;
-    'tokens: while more > 0 {
-        rest = past_token(rest);
-        more -= 1;
-    }
-    rest
-}
+use sql_tokens::{left_after, token_count, token_size};
 
 /// Where the object's name stands in a text with a head: how many bytes stand before it, and how
 /// many it has as it is spelled, with its backquotes. The name of a schema and the dot after it stand

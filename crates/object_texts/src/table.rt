@@ -1,16 +1,17 @@
 //! A table's text: its items, its engine and what stands after its parenthesis.
 ghost use Rattle.std.specs.Prelude.{◌≡◌, ◌≤◌, IfSome, length, option_map, option_and_then};
 ghost use Rattle.std.specs.Str.{is_utf8};
+ghost use Rattle.sql_tokens.specs.Reading.{tokens_of};
 ghost use Rattle.object_forms.specs.Head.{head};
-ghost use Rattle.object_forms.specs.Shape.{column_of, columns_are, engine_at, engine_in, items_after, option_at, shape, name_value, word_at};
-ghost use Rattle.object_texts.specs.Reading.{columns_in, columns_of, enclosed_texts, names_are, table_of};
+ghost use Rattle.object_forms.specs.Shape.{columns_are, engine_at, engine_in, items_after, option_at, shape, name_value, word_at};
+ghost use Rattle.object_texts.specs.Reading.{enclosed_of, item_columns, columns_in, names_are, table_of};
 ghost use Rattle.object_forms.specs.Token.{tokens};
 
 use crate::column::column_of;
 use crate::head::head_in;
 use crate::items::{enclosed_in, next_part};
-use crate::token::{Token, after_front_word, after_mark, next_token};
 use object_forms::Kind;
+use sql_tokens::{Token, after_front_word, after_mark, next_token};
 
 // What stands in a table's parenthesis, its engine, and what stands after the parenthesis.
 #[derive(Clone, Copy)]
@@ -22,7 +23,7 @@ pub(crate) struct Table<'a> {
 
 // What stands after `WORD=` at the front.
 pub(crate) fn option_at<'a>(lower: &[u8], text: &'a [u8]) -> Option<&'a [u8]>
-    ensures { option_map (λ rest. tokens rest.now) result ≡ option_at lower.now (tokens text.now) }
+    ensures { tokens_of result ≡ option_at lower.now (tokens text.now) }
 {
     after_mark(b'=', after_front_word(lower, text)?)
 }
@@ -71,7 +72,7 @@ fn is_text(name: &[u8]) -> bool
 
 // Whether an item is no column, or one with a name of UTF-8.
 fn is_named(item: &[u8]) -> bool
-    ensures { result ≡ names_are (columns_of (column_of (tokens item.now))) }
+    ensures { result ≡ names_are (item_columns item.now) }
 {
     match column_of(item) {
         Some(column) => is_text(column.name),
@@ -98,7 +99,7 @@ fn are_named(items: &[u8]) -> bool
 }
 
 pub(crate) fn column_count_of(item: &[u8]) -> usize
-    ensures { result ≡ length (columns_of (column_of (tokens item.now))) }
+    ensures { result ≡ length (item_columns item.now) }
 {
     match column_of(item) {
         Some(_) => 1,
@@ -133,7 +134,7 @@ fn columns_are(items: &[u8]) -> bool
 
 // What stands in a table's parenthesis, and what stands after that.
 fn items_in(text: &[u8]) -> Option<(&[u8], &[u8])>
-    ensures { option_map (λ found. enclosed_texts found.0.now found.1.now) result ≡ option_and_then items_after (head text.now) }
+    ensures { enclosed_of result ≡ option_and_then items_after (head text.now) }
 {
     let (head, rest) = head_in(text)?;
     if head.kind != Kind::Table {

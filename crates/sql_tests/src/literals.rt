@@ -11,7 +11,9 @@ use std::alloc::Global;
 // The longest cell of which the length may be asked.
 const LONGEST_CELL: usize = 67_108_864;
 
-// What comes of a call.
+/// What comes of a call on names, cells or literals, in words: `call` names it, and `rest` is what
+/// stands after it on the case's line, with bytes in percent-encoding. A call that isn't there leaves
+/// the literals at the greatest place. It is refused only for want of memory.
 pub fn literal_case(alloc: Global, call: &str, rest: &str) -> Result<String, OutOfMemory> {
     match call {
         "name" => named(alloc, rest),

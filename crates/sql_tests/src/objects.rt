@@ -7,7 +7,9 @@ use object_texts::{
 use plain_data::OutOfMemory;
 use std::alloc::Global;
 
-// What comes of a call.
+/// What comes of a call on an object's text, in words: `call` names it, and `rest` is the text in
+/// percent-encoding. A call that isn't there is answered by `no call`. It is refused only for want of
+/// memory.
 pub fn object_case(alloc: Global, call: &str, rest: &str) -> Result<String, OutOfMemory> {
     let text = bytes_of(alloc, rest)?;
     match call {

@@ -6,7 +6,9 @@ use statement_forms::{Command, Part, PartList, Statement};
 use statement_reading::{insert_check, statement_read};
 use std::alloc::Global;
 
-// What comes of a call.
+/// What comes of a call on a statement's text, in words: `call` names it, and `rest` is what stands
+/// after it on the case's line, with bytes in percent-encoding. A call that isn't there is answered by
+/// `no call`. It is refused only for want of memory.
 pub fn statement_case(alloc: Global, call: &str, rest: &str) -> Result<String, OutOfMemory> {
     match call {
         "read" => read(alloc, &bytes_of(alloc, rest)?),

@@ -1,4 +1,4 @@
-use Rattle.object_texts.proofs.Cuts.{parted}
+use Rattle.sql_tokens.proofs.Cuts.{parted}
 use Rattle.object_texts.proofs.HeadPlaces.{Stands, stands-after}
 use Rattle.object_texts.proofs.HeadRefusals.{created-refused, stands-named, stands-refused}
 use Rattle.object_texts.proofs.Uncreated.{uncreated-refused}

@@ -1,6 +1,6 @@
 use Rattle.std.proofs.Common.{◌≡◌, length}
 use Rattle.object_forms.specs.Head.{kind_in}
-use Rattle.object_texts.specs.Left.{IsLeft}
+use Rattle.sql_tokens.specs.Left.{IsLeft}
 use Rattle.object_forms.specs.Token.{tokens}
 use Rattle.object_texts.proofs.head.kind_in.Given as goal
 

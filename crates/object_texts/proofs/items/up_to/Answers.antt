@@ -1,9 +1,9 @@
 use Rattle.std.proofs.Common.{sym, subst, arith}
-use Rattle.object_texts.specs.Reading.{token_of}
+use Rattle.sql_tokens.specs.Reading.{token_of}
 use Rattle.object_forms.specs.Shape.{up_to}
-use Rattle.object_texts.specs.Left.{IsLeft}
+use Rattle.sql_tokens.specs.Left.{IsLeft}
 use Rattle.object_forms.specs.Token.{tokens}
-use Rattle.object_texts.proofs.Cuts.{left-all, left-next}
+use Rattle.sql_tokens.proofs.Cuts.{left-all, left-next}
 use Rattle.object_texts.proofs.Parts.{cut-next, cut-none, depth_after-le}
 use Rattle.object_texts.proofs.items.up_to.Goals as goal
 

@@ -1,6 +1,6 @@
 use Rattle.std.proofs.Common.{◌≡◌, ◌+◌, ◌-◌, ◌≤◌, length, take}
 use Rattle.object_forms.specs.Shape.{up_to}
-use Rattle.object_texts.specs.Left.{IsLeft}
+use Rattle.sql_tokens.specs.Left.{IsLeft}
 use Rattle.object_forms.specs.Token.{tokens}
 use Rattle.object_texts.proofs.Parts.{onto_all}
 use Rattle.object_texts.proofs.items.up_to.Given as goal

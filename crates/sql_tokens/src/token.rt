@@ -1,23 +1,30 @@
 //! Tokens, read one after another from the front of a text.
-ghost use Rattle.std.specs.Prelude.{◌≡◌, ◌≢◌, ◌<◌, ◌≤◌, ◌+◌, ◌^◌, ◌↔◌, IsTrue, [], ◌∷◌, length, drop, map, slice_index, IfSome, MatchOption, option_map};
+ghost use Rattle.std.specs.Prelude.{◌≡◌, ◌<◌, ◌≤◌, ◌+◌, ◌^◌, [], ◌∷◌, length, map, slice_index, IfSome, MatchOption};
 ghost use Rattle.std.specs.Char.{to_ascii_lowercase};
 ghost use Rattle.std.specs.List.{prefix_len};
 ghost use Rattle.std.specs.Str.{bytes_eq};
 ghost use Rattle.object_forms.specs.Token.{closing, comment_end, ends_comment, first_token, is_gap, is_mark, is_quote, is_white, is_word, is_word_byte, past_gaps, past_spaces, quoted_lexeme, slash_lexeme, tokens};
 ghost use Rattle.object_forms.specs.Head.{after, after_word};
 ghost use Rattle.object_forms.specs.Shape.{depth_after};
-ghost use Rattle.object_texts.specs.Left.{IsLeft};
-ghost use Rattle.object_texts.specs.Reading.{closes, lexeme_of, quoted_step, token_of};
+ghost use Rattle.sql_tokens.specs.Left.{IsLeft};
+ghost use Rattle.sql_tokens.specs.Reading.{IsFirstLexeme, closes, lexeme_of, past_first, quoted_step, token_of, tokens_of};
 
-// A token, with the bytes of a word or of a name, which are lent out of the text.
+/// A token, with the bytes of a word or of a name, which are lent out of the text.
 #[derive(Clone, Copy)]
-pub(crate) enum Token<'a> {
+pub enum Token<'a> {
+    /// Letters, digits, `_`, `$` and bytes from 0x80 on, as many as stand together.
     Word(&'a [u8]),
+    /// What stands between backquotes, as it is spelled there.
     QuotedName(&'a [u8]),
+    /// A string in single or double quotes.
     String,
+    /// One byte of white space.
     White,
+    /// A comment from `/*` to `*/`, of any version.
     Comment,
+    /// Any other byte.
     Mark(u8),
+    /// A quote or a `/*` that nothing ends, with all that follows it.
     Unended,
 }
 
@@ -164,7 +171,7 @@ fn slashed(text: &[u8]) -> Lexeme<'_>
 
 // The first token of a text that isn't empty.
 fn first_token(text: &[u8]) -> Option<Lexeme<'_>>
-    ensures { MatchOption result (text.now ≡ []) (λ found. (text.now ≢ []) × (lexeme_of found ≡ first_token text.now)) }
+    ensures { IsFirstLexeme text.now result }
 {
     let (byte, after) = text.split_first()?;
     let byte = *byte;
@@ -193,9 +200,9 @@ fn first_token(text: &[u8]) -> Option<Lexeme<'_>>
     })
 }
 
-// How many bytes the first token of a text has; none where the text is empty.
+/// How many bytes the first token of a text has; none where the text is empty.
 #[tactic(auto, using(crate::proofs::Lefts::lefts))]
-pub(crate) fn token_size(text: &[u8]) -> usize
+pub fn token_size(text: &[u8]) -> usize
     ensures size { result ≡ (first_token text.now).size }
     ensures within { result ≤ length text.now }
 {
@@ -205,19 +212,20 @@ pub(crate) fn token_size(text: &[u8]) -> usize
     }
 }
 
-// What stands after the first token.
-pub(crate) fn past_token(text: &[u8]) -> &[u8]
-    ensures { result.now ≡ drop (first_token text.now).size text.now }
+/// What stands after the first token; nothing where the text is empty.
+pub fn past_token(text: &[u8]) -> &[u8]
+    ensures { result.now ≡ past_first text.now }
 {
     text.split_at(token_size(text)).1
 }
 
-// The first token of a text, and what stands after it.
+/// The first token of a text, and what stands after it; `None` where the text is empty.
 #[tactic(auto, using(crate::proofs::Tokens::steps))]
-pub(crate) fn next_token(text: &[u8]) -> Option<(Token<'_>, &[u8])>
-    ensures first { MatchOption result (tokens text.now ≡ []) (λ found. tokens text.now ≡ token_of found.0 ∷ tokens found.1.now) }
+pub fn next_token(text: &[u8]) -> Option<(Token<'_>, &[u8])>
+    ensures first { MatchOption result (tokens text.now ≡ []) (λ found.
+        tokens text.now ≡ token_of found.0 ∷ tokens found.1.now) }
     ensures shorter { IfSome result (λ found. length found.1.now < length text.now) }
-    ensures after { IfSome result (λ found. found.1.now ≡ drop (first_token text.now).size text.now) }
+    ensures after { IfSome result (λ found. found.1.now ≡ past_first text.now) }
 {
     let first = first_token(text)?;
     let (_, after) = text.split_at(first.size);
@@ -240,8 +248,8 @@ fn is_lowered(bytes: &[u8], lower: &[u8]) -> bool
 }
 
 impl Token<'_> {
-    // Whether it is that word, which is given in lower case, in any case.
-    pub(crate) fn is_word(self, lower: &[u8]) -> bool
+    /// Whether it is that word, which is given in lower case, in any case.
+    pub fn is_word(self, lower: &[u8]) -> bool
         ensures { result ≡ is_word lower.now (token_of self.entry) }
     {
         match self {
@@ -250,7 +258,8 @@ impl Token<'_> {
         }
     }
 
-    pub(crate) fn is_mark(self, byte: u8) -> bool
+    /// Whether it is that byte.
+    pub fn is_mark(self, byte: u8) -> bool
         ensures { result ≡ is_mark byte (token_of self.entry) }
     {
         match self {
@@ -259,8 +268,9 @@ impl Token<'_> {
         }
     }
 
-    // How deep in parentheses what follows the token stands.
-    pub(crate) fn depth_after(self, depth: usize) -> usize
+    /// How deep in parentheses what follows the token stands. `depth` is how deep the token stands,
+    /// and is below 2^63.
+    pub fn depth_after(self, depth: usize) -> usize
         requires { depth < 2 ^ 63 }
         ensures { result ≡ depth_after (token_of self.entry) depth }
     {
@@ -273,17 +283,17 @@ impl Token<'_> {
         }
     }
 
-    // Whether it is white space or a comment.
-    pub(crate) fn is_gap(self) -> bool
+    /// Whether it is white space or a comment.
+    pub fn is_gap(self) -> bool
         ensures { result ≡ is_gap (token_of self.entry) }
     {
         matches!(self, Token::White | Token::Comment)
     }
 }
 
-// What stands after white space and comments.
+/// What stands after white space and comments.
 #[tactic(auto, using(crate::proofs::Cuts::left))]
-pub(crate) fn past_gaps(text: &[u8]) -> &[u8]
+pub fn past_gaps(text: &[u8]) -> &[u8]
     ensures past { tokens result.now ≡ past_gaps (tokens text.now) }
     ensures left { IsLeft text.now result.now }
 {
@@ -297,8 +307,8 @@ pub(crate) fn past_gaps(text: &[u8]) -> &[u8]
     rest
 }
 
-// What stands after white space.
-pub(crate) fn past_spaces(text: &[u8]) -> &[u8]
+/// What stands after white space.
+pub fn past_spaces(text: &[u8]) -> &[u8]
     ensures { tokens result.now ≡ past_spaces (tokens text.now) }
 {
     let mut rest = text;
@@ -311,26 +321,27 @@ pub(crate) fn past_spaces(text: &[u8]) -> &[u8]
     rest
 }
 
-// What stands after a token at the front that is this byte.
-pub(crate) fn after_mark(byte: u8, text: &[u8]) -> Option<&[u8]>
-    ensures { option_map (λ rest. tokens rest.now) result ≡ after (is_mark byte) (tokens text.now) }
+/// What stands after a token at the front that is this byte; `None` where none is there.
+pub fn after_mark(byte: u8, text: &[u8]) -> Option<&[u8]>
+    ensures { tokens_of result ≡ after (is_mark byte) (tokens text.now) }
 {
     let (token, rest) = next_token(text)?;
     token.is_mark(byte).then_some(rest)
 }
 
-// What stands after a token at the front that is this word.
-pub(crate) fn after_front_word<'a>(lower: &[u8], text: &'a [u8]) -> Option<&'a [u8]>
-    ensures after { option_map (λ rest. tokens rest.now) result ≡ after (is_word lower.now) (tokens text.now) }
-    ensures left { IfSome result (λ rest. rest.now ≡ drop (first_token text.now).size text.now) }
+/// What stands after a token at the front that is this word, which is given in lower case and
+/// stands in any case; `None` where it isn't there.
+pub fn after_front_word<'a>(lower: &[u8], text: &'a [u8]) -> Option<&'a [u8]>
+    ensures after { tokens_of result ≡ after (is_word lower.now) (tokens text.now) }
+    ensures left { IfSome result (λ rest. rest.now ≡ past_first text.now) }
 {
     let (token, rest) = next_token(text)?;
     token.is_word(lower).then_some(rest)
 }
 
-// The same past white space and comments.
-pub(crate) fn after_word<'a>(lower: &[u8], text: &'a [u8]) -> Option<&'a [u8]>
-    ensures { option_map (λ rest. tokens rest.now) result ≡ after_word lower.now (tokens text.now) }
+/// The same of a word past white space and comments.
+pub fn after_word<'a>(lower: &[u8], text: &'a [u8]) -> Option<&'a [u8]>
+    ensures { tokens_of result ≡ after_word lower.now (tokens text.now) }
 {
     after_front_word(lower, past_gaps(text))
 }

@@ -1,6 +1,6 @@
 use Rattle.std.proofs.Common.{◌≡◌, ◌-◌, ◌≤◌, length, drop}
 use Rattle.object_forms.specs.Token.{comment_end, more}
-use Rattle.object_texts.proofs.token.comment_end.Given as goal
+use Rattle.sql_tokens.proofs.token.comment_end.Given as goal
 
 abbrev pub invariant-commented : goal.invariant-commented
 invariant-commented l = (l.at ≤ length l.text) × (comment_end l.text ≡ more l.at (comment_end (drop l.at l.text)))

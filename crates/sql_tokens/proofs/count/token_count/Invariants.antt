@@ -1,6 +1,6 @@
 use Rattle.std.proofs.Common.{◌≡◌, ◌+◌, ◌≤◌, length}
 use Rattle.object_forms.specs.Token.{tokens}
-use Rattle.object_texts.proofs.place.token_count.Given as goal
+use Rattle.sql_tokens.proofs.count.token_count.Given as goal
 
 abbrev pub invariant-tokens : goal.invariant-tokens
 invariant-tokens l = (l.count + length l.rest ≤ length l.text) × (l.count + length (tokens l.rest) ≡ length (tokens l.text))

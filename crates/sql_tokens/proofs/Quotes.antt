@@ -2,7 +2,7 @@
 use Rattle.std.proofs.Common.{◌≡◌, ℕ, suc, ◌+◌, ◌<◌, ◌≤◌, ◌==◌, ◌&&◌, not, Bool, true, false, cond, List, [], ◌∷◌, length, drop, get_or, Option, Some, None, refl, ◌∙◌, ap, arith, drop-cons, length-drop, drop_of_length-le}
 use Rattle.std.proofs.lemmas.List.{drop-drop}
 use Rattle.std.proofs.lemmas.List.Sums.{prefix_len-drop_yes, prefix_len-drop_no, prefix_len-drop_all}
-use Rattle.object_texts.specs.Reading.{closes, quoted_step}
+use Rattle.sql_tokens.specs.Reading.{closes, quoted_step}
 use Rattle.object_forms.specs.Token.{closing, comment_end, ends_comment, more}
 
 more-more : (n m : ℕ) (size : Option ℕ) → more n (more m size) ≡ more (n + m) size

@@ -5,8 +5,8 @@ use Rattle.std.proofs.lemmas.Bool.{cases_lt}
 use Rattle.std.specs.List.{prefix_len}
 use Rattle.object_forms.specs.Token.{Lexeme, Token, closing, comment_end, comment_lexeme, ends_comment, first_token, is_quote, is_white, is_word_byte, more, quoted_lexeme, slash_lexeme, tokens, word_lexeme}
 use Rattle.object_forms.specs.Token.{left_after}
-use Rattle.object_texts.specs.Left.{IsLeft}
-use Rattle.object_texts.proofs.Tokens.{EndsWithin, closing-within, comment_end-within, cond_by, first_token-fits, tokens-cons, tokens-nil}
+use Rattle.sql_tokens.specs.Left.{IsLeft}
+use Rattle.sql_tokens.proofs.Tokens.{EndsWithin, closing-within, comment_end-within, cond_by, first_token-fits, tokens-cons, tokens-nil}
 
 -- what holds between the choices holds of those that one test makes
 pub cond_both : {A B : Type 0} (R : A → B → Type 0) (test : Bool) {x y : A} {v w : B} → R x v → R y w → R (cond test x y) (cond test v w)

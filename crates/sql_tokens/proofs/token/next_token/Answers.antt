@@ -1,8 +1,8 @@
 use Rattle.std.proofs.Common.{length, drop, ◌∙◌, ap, arith, length-drop}
 use Rattle.object_forms.specs.Token.{Lexeme}
-use Rattle.object_texts.specs.Reading.{token_of}
-use Rattle.object_texts.proofs.Tokens.{first-read}
-use Rattle.object_texts.proofs.token.next_token.Goals as goal
+use Rattle.sql_tokens.specs.Reading.{token_of}
+use Rattle.sql_tokens.proofs.Tokens.{first-read}
+use Rattle.sql_tokens.proofs.token.next_token.Goals as goal
 
 pub returns-clause-first : goal.returns-clause-first
 returns-clause-first c =

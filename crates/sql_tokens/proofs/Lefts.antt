@@ -1,8 +1,8 @@
 -- What is left of a text after some of its tokens.
 use Rattle.std.proofs.Common.{◌≡◌, ℕ, suc, zero, ◌-◌, ◌<◌, ◌≤◌, List, [], ◌∷◌, length, drop, refl, arith}
 use Rattle.object_forms.specs.Token.{first_token, left_after}
-use Rattle.object_texts.proofs.Cuts.{parted}
-use Rattle.object_texts.proofs.Tokens.{first_token-fits}
+use Rattle.sql_tokens.proofs.Cuts.{parted}
+use Rattle.sql_tokens.proofs.Tokens.{first_token-fits}
 
 pub left-step : (n : ℕ) (text : List ℕ) → 0 < n → left_after n text ≡ left_after (n - 1) (drop (first_token text).size text)
 left-step zero text some = absurd (omega arith)

@@ -1,0 +1,4 @@
+pub mod Quotes
+pub mod Tokens
+pub mod Cuts
+pub mod Lefts
