@@ -34,9 +34,11 @@ pub record CommandTexts : Type 0 where
   pub insert_progress_file : command_text (InsertProgressFile (codes "it's.00001.sql")) ≡ codes "INSERT INTO `myloader_progress`.`files` (`name`) VALUES ('it" ++ 92 ∷ [] ++ codes "'s.00001.sql')"
   pub insert_progress_dump : command_text (InsertProgressDump (codes "da39a3ee5e6b4b0d3255bfef95601890afd80709")) ≡ codes "INSERT INTO `myloader_progress`.`dump` (`digest`) VALUES ('da39a3ee5e6b4b0d3255bfef95601890afd80709')"
 
+-- two columns, one with a backquote in its name
 abbrev pub two_columns : List (List ℕ)
 two_columns = codes "id" ∷ codes "a`b" ∷ []
 
+-- the three columns of a key
 abbrev pub three_columns : List (List ℕ)
 three_columns = codes "a" ∷ codes "b" ∷ codes "c" ∷ []
 

@@ -8,6 +8,7 @@ use Rattle.statement_forms.specs.Text.{by_key, by_keys, dotted, key_above, key_f
 use Rattle.sql_statements.specs.declared.piece.Piece.{Piece}
 use Rattle.sql_statements.specs.declared.piece.Piece.TheVariants.{Word, Whole, Name, Path, Text, Signed, RowsFrom, KeyFrom, Above, ByKey, WideAbove, WideUpTo, ByKeys, OneAfter}
 
+-- the bytes of a piece, as they are written
 abbrev pub piece_text : Piece → List ℕ
 piece_text (Word bytes) = bytes.now
 piece_text (Whole text) = text.now

@@ -63,6 +63,48 @@ pub(crate) enum Piece<'a> {
     OneAfter(u64),
 }
 
+// Nothing, where a text has fewer pieces.
+pub(crate) const END: Piece<'static> = Piece::Word(b"");
+
+// One piece, and nothing after it.
+pub(crate) fn one_piece<'a>(first: Piece<'a>) -> [Piece<'a>; 7]
+    ensures { pieces_text result ≡ piece_text first.entry }
+{
+    [first, END, END, END, END, END, END]
+}
+
+// Two pieces, and nothing after them.
+pub(crate) fn two_pieces<'a>(first: Piece<'a>, second: Piece<'a>) -> [Piece<'a>; 7]
+    ensures { pieces_text result ≡ piece_text first.entry ++ piece_text second.entry }
+{
+    [first, second, END, END, END, END, END]
+}
+
+// Three pieces, and nothing after them.
+pub(crate) fn three_pieces<'a>(
+    first: Piece<'a>,
+    second: Piece<'a>,
+    third: Piece<'a>,
+) -> [Piece<'a>; 7]
+    ensures { pieces_text result ≡ piece_text first.entry ++ piece_text second.entry
+        ++ piece_text third.entry }
+{
+    [first, second, third, END, END, END, END]
+}
+
+// Four pieces, and nothing after them.
+pub(crate) fn four_pieces<'a>(
+    first: Piece<'a>,
+    second: Piece<'a>,
+    third: Piece<'a>,
+    fourth: Piece<'a>,
+) -> [Piece<'a>; 7]
+    ensures { pieces_text result ≡ piece_text first.entry ++ piece_text second.entry
+        ++ piece_text third.entry ++ piece_text fourth.entry }
+{
+    [first, second, third, fourth, END, END, END]
+}
+
 // How many bytes the names after the first have, each after a comma.
 #[tactic(auto, using(crate::proofs::Lengths::later_names_fit))]
 fn later_names_length(names: &[Part<'_>]) -> Option<usize>
@@ -313,7 +355,8 @@ fn push_signed(number: i128, out: &mut Buffer)
 fn push_rows_from(columns: &[Part<'_>], schema: &[u8], table: &[u8], out: &mut Buffer)
     requires { length (rows_from columns.now schema.now table.now) ≤ out.old.spare }
     ensures bytes { out.new.bytes ≡ out.old.bytes ++ rows_from columns.now schema.now table.now }
-    ensures spare { out.new.spare + length (rows_from columns.now schema.now table.now) ≡ out.old.spare }
+    ensures spare { out.new.spare + length (rows_from columns.now schema.now table.now)
+        ≡ out.old.spare }
 {
     out.push(SELECT);
     push_names(columns, out);

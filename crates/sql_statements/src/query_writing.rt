@@ -8,50 +8,26 @@ use crate::piece::Piece::{
     Above, ByKey, ByKeys, KeyFrom, Name, OneAfter, Path, RowsFrom, Signed, Text, WideAbove,
     WideUpTo, Word,
 };
-use crate::piece::{Piece, pieces_into};
+use crate::piece::{END, Piece, four_pieces, one_piece, pieces_into, three_pieces, two_pieces};
 use plain_data::{Buffer, OutOfMemory};
 use statement_forms::Query;
 
 const AT_MOST: &[u8] = b" <= ";
-
-// Nothing, where a text has fewer pieces.
-const END: Piece<'static> = Word(b"");
 
 // The pieces of a query's text.
 fn query_pieces<'a>(query: &'a Query<'_>) -> [Piece<'a>; 7]
     ensures { pieces_text result ≡ query_text query.now }
 {
     match query {
-        Query::MasterStatus => [Word(b"SHOW MASTER STATUS"), END, END, END, END, END, END],
-        Query::BinaryLogStatus => [
-            Word(b"SHOW BINARY LOG STATUS"),
-            END,
-            END,
-            END,
-            END,
-            END,
-            END,
-        ],
-        Query::Schemas => [
-            Word(b"SELECT SCHEMA_NAME FROM information_schema.SCHEMATA"),
-            END,
-            END,
-            END,
-            END,
-            END,
-            END,
-        ],
-        Query::Tables { schema } => [
+        Query::MasterStatus => one_piece(Word(b"SHOW MASTER STATUS")),
+        Query::BinaryLogStatus => one_piece(Word(b"SHOW BINARY LOG STATUS")),
+        Query::Schemas => one_piece(Word(b"SELECT SCHEMA_NAME FROM information_schema.SCHEMATA")),
+        Query::Tables { schema } => two_pieces(
             Word(
                 b"SELECT TABLE_NAME,TABLE_TYPE,ENGINE FROM information_schema.TABLES WHERE TABLE_SCHEMA=",
             ),
             Text(schema),
-            END,
-            END,
-            END,
-            END,
-            END,
-        ],
+        ),
         Query::Columns { schema, table } => [
             Word(
                 b"SELECT COLUMN_NAME,DATA_TYPE,COLUMN_TYPE,EXTRA FROM information_schema.COLUMNS WHERE TABLE_SCHEMA=",
@@ -72,182 +48,96 @@ fn query_pieces<'a>(query: &'a Query<'_>) -> [Piece<'a>; 7]
             END,
             END,
         ],
-        Query::Triggers { schema } => [
+        Query::Triggers { schema } => two_pieces(
             Word(
                 b"SELECT TRIGGER_NAME,EVENT_OBJECT_TABLE,ACTION_ORDER FROM information_schema.TRIGGERS WHERE TRIGGER_SCHEMA=",
             ),
             Text(schema),
-            END,
-            END,
-            END,
-            END,
-            END,
-        ],
-        Query::Routines { schema } => [
+        ),
+        Query::Routines { schema } => two_pieces(
             Word(
                 b"SELECT ROUTINE_NAME,ROUTINE_TYPE FROM information_schema.ROUTINES WHERE ROUTINE_SCHEMA=",
             ),
             Text(schema),
-            END,
-            END,
-            END,
-            END,
-            END,
-        ],
-        Query::ViewNeeds { schema } => [
+        ),
+        Query::ViewNeeds { schema } => two_pieces(
             Word(
                 b"SELECT VIEW_NAME,TABLE_SCHEMA,TABLE_NAME FROM information_schema.VIEW_TABLE_USAGE WHERE VIEW_SCHEMA=",
             ),
             Text(schema),
-            END,
-            END,
-            END,
-            END,
-            END,
-        ],
-        Query::Events { schema } => [
+        ),
+        Query::Events { schema } => two_pieces(
             Word(b"SELECT EVENT_NAME FROM information_schema.EVENTS WHERE EVENT_SCHEMA="),
             Text(schema),
-            END,
-            END,
-            END,
-            END,
-            END,
-        ],
-        Query::CreateDatabase { schema } => [
+        ),
+        Query::CreateDatabase { schema } => two_pieces(
             Word(b"SHOW CREATE DATABASE "),
             Name(schema),
-            END,
-            END,
-            END,
-            END,
-            END,
-        ],
-        Query::CreateTable { schema, name } => [
+        ),
+        Query::CreateTable { schema, name } => two_pieces(
             Word(b"SHOW CREATE TABLE "),
             Path(schema, name),
-            END,
-            END,
-            END,
-            END,
-            END,
-        ],
-        Query::CreateView { schema, name } => [
+        ),
+        Query::CreateView { schema, name } => two_pieces(
             Word(b"SHOW CREATE VIEW "),
             Path(schema, name),
-            END,
-            END,
-            END,
-            END,
-            END,
-        ],
-        Query::CreateProcedure { schema, name } => [
+        ),
+        Query::CreateProcedure { schema, name } => two_pieces(
             Word(b"SHOW CREATE PROCEDURE "),
             Path(schema, name),
-            END,
-            END,
-            END,
-            END,
-            END,
-        ],
-        Query::CreateFunction { schema, name } => [
+        ),
+        Query::CreateFunction { schema, name } => two_pieces(
             Word(b"SHOW CREATE FUNCTION "),
             Path(schema, name),
-            END,
-            END,
-            END,
-            END,
-            END,
-        ],
-        Query::CreateTrigger { schema, name } => [
+        ),
+        Query::CreateTrigger { schema, name } => two_pieces(
             Word(b"SHOW CREATE TRIGGER "),
             Path(schema, name),
-            END,
-            END,
-            END,
-            END,
-            END,
-        ],
-        Query::CreateEvent { schema, name } => [
+        ),
+        Query::CreateEvent { schema, name } => two_pieces(
             Word(b"SHOW CREATE EVENT "),
             Path(schema, name),
-            END,
-            END,
-            END,
-            END,
-            END,
-        ],
+        ),
         Query::Key {
             key,
             schema,
             table,
             skipped,
-        } => [
-            KeyFrom(key, schema, table),
-            ByKey(key),
-            OneAfter(*skipped),
-            END,
-            END,
-            END,
-            END,
-        ],
+        } => three_pieces(KeyFrom(key, schema, table), ByKey(key), OneAfter(*skipped)),
         Query::KeyAbove {
             key,
             schema,
             table,
             above,
             skipped,
-        } => [
+        } => four_pieces(
             KeyFrom(key, schema, table),
             Above(key, above),
             ByKey(key),
             OneAfter(*skipped),
-            END,
-            END,
-            END,
-        ],
+        ),
         Query::Rows {
             columns,
             schema,
             table,
-        } => [
-            RowsFrom(columns, schema, table),
-            END,
-            END,
-            END,
-            END,
-            END,
-            END,
-        ],
+        } => one_piece(RowsFrom(columns, schema, table)),
         Query::RowsByKey {
             columns,
             schema,
             table,
             key,
-        } => [
-            RowsFrom(columns, schema, table),
-            ByKey(key),
-            END,
-            END,
-            END,
-            END,
-            END,
-        ],
+        } => two_pieces(RowsFrom(columns, schema, table), ByKey(key)),
         Query::RowsAbove {
             columns,
             schema,
             table,
             key,
             above,
-        } => [
+        } => three_pieces(
             RowsFrom(columns, schema, table),
             Above(key, above),
             ByKey(key),
-            END,
-            END,
-            END,
-            END,
-        ],
+        ),
         Query::RowsUpTo {
             columns,
             schema,
@@ -284,15 +174,11 @@ fn query_pieces<'a>(query: &'a Query<'_>) -> [Piece<'a>; 7]
             schema,
             table,
             skipped,
-        } => [
+        } => three_pieces(
             RowsFrom(keys, schema, table),
             ByKeys(keys),
             OneAfter(*skipped),
-            END,
-            END,
-            END,
-            END,
-        ],
+        ),
         Query::WideKeyAbove {
             keys,
             schema,
@@ -313,45 +199,31 @@ fn query_pieces<'a>(query: &'a Query<'_>) -> [Piece<'a>; 7]
             schema,
             table,
             keys,
-        } => [
-            RowsFrom(columns, schema, table),
-            ByKeys(keys),
-            END,
-            END,
-            END,
-            END,
-            END,
-        ],
+        } => two_pieces(RowsFrom(columns, schema, table), ByKeys(keys)),
         Query::RowsAboveWide {
             columns,
             schema,
             table,
             keys,
             above,
-        } => [
+        } => four_pieces(
             RowsFrom(columns, schema, table),
             Word(b" WHERE "),
             WideAbove(keys, above),
             ByKeys(keys),
-            END,
-            END,
-            END,
-        ],
+        ),
         Query::RowsUpToWide {
             columns,
             schema,
             table,
             keys,
             up_to,
-        } => [
+        } => four_pieces(
             RowsFrom(columns, schema, table),
             Word(b" WHERE "),
             WideUpTo(keys, up_to),
             ByKeys(keys),
-            END,
-            END,
-            END,
-        ],
+        ),
         Query::RowsBetweenWide {
             columns,
             schema,
@@ -368,24 +240,8 @@ fn query_pieces<'a>(query: &'a Query<'_>) -> [Piece<'a>; 7]
             ByKeys(keys),
             END,
         ],
-        Query::ProgressDump => [
-            Word(b"SELECT `digest` FROM `myloader_progress`.`dump`"),
-            END,
-            END,
-            END,
-            END,
-            END,
-            END,
-        ],
-        Query::ProgressFiles => [
-            Word(b"SELECT `name` FROM `myloader_progress`.`files`"),
-            END,
-            END,
-            END,
-            END,
-            END,
-            END,
-        ],
+        Query::ProgressDump => one_piece(Word(b"SELECT `digest` FROM `myloader_progress`.`dump`")),
+        Query::ProgressFiles => one_piece(Word(b"SELECT `name` FROM `myloader_progress`.`files`")),
     }
 }
 

@@ -28,6 +28,7 @@ form_word Select = codes "SELECT"
 form_word ShowCreate = codes "SHOW CREATE"
 form_word Connect = codes "CONNECT"
 
+-- the form of a command
 abbrev pub command_form : Command → Form
 command_form SetUp = Set
 command_form NamesUtf8mb4 = Set
@@ -57,6 +58,7 @@ command_form (Insert text) = InsertForm
 command_form (InsertProgressFile name) = InsertForm
 command_form (InsertProgressDump digest) = InsertForm
 
+-- the form of a query
 abbrev pub query_form : Query → Form
 query_form MasterStatus = ShowMasterStatus
 query_form BinaryLogStatus = ShowBinaryLogStatus

@@ -8,6 +8,7 @@ use Rattle.sql_cells.specs.Spelling.{Literal}
 abbrev pub is_inside : ℕ → Bool
 is_inside byte = if byte == 96 then false else true
 
+-- a backquote and bytes after it, none of them a backquote
 unfoldable pub OpenedName : Language
 OpenedName = Then (Fixed (codes "`")) (Many (One is_inside))
 

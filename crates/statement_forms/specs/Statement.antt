@@ -13,6 +13,7 @@ use Rattle.statement_forms.specs.declared.query.Query.TheVariants.{MasterStatus,
 use Rattle.statement_forms.specs.declared.statement.Statement.{Statement}
 use Rattle.statement_forms.specs.declared.statement.Statement.TheVariants.{Command as SomeCommand, Query as SomeQuery}
 
+-- a hexadecimal digit, its letter in lower case
 abbrev pub is_lower_digit : ℕ → Bool
 is_lower_digit byte = (nat_le 48 byte && nat_le byte 57) || (nat_le 97 byte && nat_le byte 102)
 
@@ -158,6 +159,7 @@ command_row (Insert text) = 24
 command_row (InsertProgressFile name) = 25
 command_row (InsertProgressDump digest) = 26
 
+-- the row of a query in the order of the statements, after all commands
 abbrev pub query_row : Query → ℕ
 query_row MasterStatus = 27
 query_row BinaryLogStatus = 28
@@ -192,6 +194,7 @@ query_row (RowsBetweenWide columns schema table keys above up_to) = 56
 query_row ProgressDump = 57
 query_row ProgressFiles = 58
 
+-- the row of a statement in that order
 abbrev pub row_of : Statement → ℕ
 row_of (SomeCommand command) = command_row command
 row_of (SomeQuery query) = query_row query

@@ -17,6 +17,7 @@ dotted schema name = quoted_name schema ++ codes "." ++ quoted_name name
 abbrev pub names : List (List ℕ) → List ℕ
 names parts = join_with_byte 44 (map quoted_name parts)
 
+-- the text that is sent for a command
 unfoldable pub command_text : Command → List ℕ
 command_text SetUp = codes "SET SESSION autocommit=1,sql_mode='NO_AUTO_VALUE_ON_ZERO',time_zone='+00:00',wait_timeout=2147483,sql_quote_show_create=1,foreign_key_checks=0"
 command_text NamesUtf8mb4 = codes "SET NAMES utf8mb4"
@@ -50,6 +51,7 @@ command_text (InsertProgressDump digest) = codes "INSERT INTO `myloader_progress
 abbrev pub rows_from : List (List ℕ) → List ℕ → List ℕ → List ℕ
 rows_from columns schema table = codes "SELECT " ++ names columns ++ codes " FROM " ++ dotted schema table
 
+-- in the order of a key of one column
 abbrev pub by_key : List ℕ → List ℕ
 by_key key = codes " ORDER BY " ++ quoted_name key
 
@@ -61,6 +63,7 @@ key_from key schema table = codes "SELECT " ++ quoted_name key ++ codes " FROM "
 abbrev pub one_after : ℕ → List ℕ
 one_after skipped = codes " LIMIT " ++ decimal skipped ++ codes ",1"
 
+-- the condition that a key of one column is above a bound
 abbrev pub key_above : List ℕ → ℤ → List ℕ
 key_above key bound = codes " WHERE " ++ quoted_name key ++ codes " > " ++ signed_decimal bound
 
@@ -88,6 +91,7 @@ wide_above keys bound = name_row keys ++ codes " > " ++ number_row bound
 abbrev pub wide_up_to : List (List ℕ) → List ℤ → List ℕ
 wide_up_to keys bound = name_row keys ++ codes " <= " ++ number_row bound
 
+-- the text that is sent for a query
 unfoldable pub query_text : Query → List ℕ
 query_text MasterStatus = codes "SHOW MASTER STATUS"
 query_text BinaryLogStatus = codes "SHOW BINARY LOG STATUS"

@@ -10,6 +10,7 @@ use Rattle.statement_reading.specs.declared.insert.Run.{Run}
 unfoldable pub RowRest : ℕ → Language
 RowRest more = Then (Times NextLiteral more) (Fixed (codes ")"))
 
+-- a row after its opening parenthesis: a literal, and so many more
 unfoldable pub RowInside : ℕ → Language
 RowInside more = Then Literal (RowRest more)
 
@@ -22,9 +23,14 @@ abbrev pub run_size : Result Run ℕ → Result ℕ ℕ
 run_size (Ok run) = Ok run.size
 run_size (Err place) = Err place
 
+-- the reading of columns and rows, by its size alone
 abbrev pub filled_size : Result FilledSize ℕ → Result ℕ ℕ
 filled_size (Ok found) = Ok found.size
 filled_size (Err place) = Err place
+
+-- the front of the run's size is so many texts of the language one after another, no more of them than bytes
+abbrev pub IsRun : Language → Run → List ℕ → Type 0
+IsRun texts run bytes = Times texts run.count (take run.size bytes) × (run.count ≤ run.size)
 
 -- so many rows of one more than so many literals
 pub record IsRows (more count : ℕ) (text : List ℕ) : Type 0 where

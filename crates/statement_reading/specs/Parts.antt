@@ -57,6 +57,7 @@ is_own byte = if is_special byte then false else true
 abbrev pub is_written_letter : ℕ → Bool
 is_written_letter byte = byte == 48 || byte == 110 || byte == 114 || byte == 90 || byte == 34 || byte == 39 || byte == 92
 
+-- a backslash and the letter for a special byte
 unfoldable pub WrittenEscape : Language
 WrittenEscape = Then (Fixed (92 ∷ [])) (One is_written_letter)
 
@@ -64,6 +65,7 @@ WrittenEscape = Then (Fixed (92 ∷ [])) (One is_written_letter)
 unfoldable pub WrittenByte : Language
 WrittenByte = Or (One is_own) WrittenEscape
 
+-- a single quote and bytes after it, as they are written before the closing one
 unfoldable pub OpenedText : Language
 OpenedText = Then (Fixed (39 ∷ [])) (Many WrittenByte)
 
@@ -75,6 +77,7 @@ WrittenText = Then OpenedText (Fixed (39 ∷ []))
 unfoldable pub DigestText : Language
 DigestText = Times (One is_lower_digit) 40
 
+-- a decimal digit
 abbrev pub is_decimal_digit : ℕ → Bool
 is_decimal_digit byte = nat_le 48 byte && nat_le byte 57
 

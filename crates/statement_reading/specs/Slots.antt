@@ -17,11 +17,13 @@ pub data Place : Type 0 where
   -- the same bytes as the part of this index
   again : ℕ → Place
 
+-- the slot that the code declares, as a place of a shape
 abbrev pub place_of : Slot → Place
 place_of (Word bytes) = word bytes.now
 place_of (Part kind) = part kind
 place_of (Again index) = again index
 
+-- slots as the places of a shape, in order
 abbrev pub places : List Slot → List Place
 places slots = map place_of slots
 

@@ -6,79 +6,91 @@ ghost use Rattle.statement_reading.specs.Readings.{IsRead, InRow};
 ghost use Rattle.statement_forms.specs.Statement.{IsReadAs, Statements};
 
 use crate::fault::StatementFault;
-use crate::reading::commands::{CommandKind, read_command};
-use crate::reading::query_kinds::{QueryKind, read_query};
+use crate::reading::catalogue::{CatalogueKind, read_catalogue_query};
+use crate::reading::loads::{LoadKind, read_load};
+use crate::reading::progress::{ProgressKind, read_progress_query};
+use crate::reading::row_queries::{RowQueryKind, read_row_query};
+use crate::reading::settings::{SettingKind, read_setting};
+use crate::reading::show_create::{ShowCreateKind, read_show_create};
+use crate::reading::stored::{StoredKind, read_stored_query};
+use crate::reading::transactions::{TransactionKind, read_transaction};
 use statement_forms::Statement;
 use std::alloc::Global;
 
 /// Which statement it is.
 #[derive(Clone, Copy)]
 enum StatementKind {
-    Command(CommandKind),
-    Query(QueryKind),
+    Setting(SettingKind),
+    Transaction(TransactionKind),
+    Load(LoadKind),
+    Catalogue(CatalogueKind),
+    Stored(StoredKind),
+    ShowCreate(ShowCreateKind),
+    RowQuery(RowQueryKind),
+    Progress(ProgressKind),
 }
 
 // All kinds, from the last row to the first: where a text is that of two, the later row counts.
 const KINDS: [StatementKind; 59] = [
-    StatementKind::Query(QueryKind::ProgressFiles),
-    StatementKind::Query(QueryKind::ProgressDump),
-    StatementKind::Query(QueryKind::RowsBetweenWide),
-    StatementKind::Query(QueryKind::RowsUpToWide),
-    StatementKind::Query(QueryKind::RowsAboveWide),
-    StatementKind::Query(QueryKind::RowsByWideKey),
-    StatementKind::Query(QueryKind::WideKeyAbove),
-    StatementKind::Query(QueryKind::WideKey),
-    StatementKind::Query(QueryKind::RowsBetween),
-    StatementKind::Query(QueryKind::RowsUpTo),
-    StatementKind::Query(QueryKind::RowsAbove),
-    StatementKind::Query(QueryKind::RowsByKey),
-    StatementKind::Query(QueryKind::Rows),
-    StatementKind::Query(QueryKind::KeyAbove),
-    StatementKind::Query(QueryKind::Key),
-    StatementKind::Query(QueryKind::CreateEvent),
-    StatementKind::Query(QueryKind::CreateTrigger),
-    StatementKind::Query(QueryKind::CreateFunction),
-    StatementKind::Query(QueryKind::CreateProcedure),
-    StatementKind::Query(QueryKind::CreateView),
-    StatementKind::Query(QueryKind::CreateTable),
-    StatementKind::Query(QueryKind::CreateDatabase),
-    StatementKind::Query(QueryKind::Events),
-    StatementKind::Query(QueryKind::ViewNeeds),
-    StatementKind::Query(QueryKind::Routines),
-    StatementKind::Query(QueryKind::Triggers),
-    StatementKind::Query(QueryKind::PrimaryKey),
-    StatementKind::Query(QueryKind::Columns),
-    StatementKind::Query(QueryKind::Tables),
-    StatementKind::Query(QueryKind::Schemas),
-    StatementKind::Query(QueryKind::BinaryLogStatus),
-    StatementKind::Query(QueryKind::MasterStatus),
-    StatementKind::Command(CommandKind::InsertProgressDump),
-    StatementKind::Command(CommandKind::InsertProgressFile),
-    StatementKind::Command(CommandKind::Insert),
-    StatementKind::Command(CommandKind::CreateProgressDump),
-    StatementKind::Command(CommandKind::CreateProgressFiles),
-    StatementKind::Command(CommandKind::CreateProgress),
-    StatementKind::Command(CommandKind::Create),
-    StatementKind::Command(CommandKind::Use),
-    StatementKind::Command(CommandKind::Rollback),
-    StatementKind::Command(CommandKind::Commit),
-    StatementKind::Command(CommandKind::Start),
-    StatementKind::Command(CommandKind::StartSnapshot),
-    StatementKind::Command(CommandKind::UnlockInstance),
-    StatementKind::Command(CommandKind::UnlockTables),
-    StatementKind::Command(CommandKind::FlushTables),
-    StatementKind::Command(CommandKind::LockInstance),
-    StatementKind::Command(CommandKind::TimeZone),
-    StatementKind::Command(CommandKind::RepeatableRead),
-    StatementKind::Command(CommandKind::CollationConnection),
-    StatementKind::Command(CommandKind::CharacterSetClient),
-    StatementKind::Command(CommandKind::SqlMode),
-    StatementKind::Command(CommandKind::BinaryLogOff),
-    StatementKind::Command(CommandKind::TimeZoneUtc),
-    StatementKind::Command(CommandKind::ForeignKeyChecksOff),
-    StatementKind::Command(CommandKind::NamesBinary),
-    StatementKind::Command(CommandKind::NamesUtf8mb4),
-    StatementKind::Command(CommandKind::SetUp),
+    StatementKind::Progress(ProgressKind::ProgressFiles),
+    StatementKind::Progress(ProgressKind::ProgressDump),
+    StatementKind::RowQuery(RowQueryKind::RowsBetweenWide),
+    StatementKind::RowQuery(RowQueryKind::RowsUpToWide),
+    StatementKind::RowQuery(RowQueryKind::RowsAboveWide),
+    StatementKind::RowQuery(RowQueryKind::RowsByWideKey),
+    StatementKind::RowQuery(RowQueryKind::WideKeyAbove),
+    StatementKind::RowQuery(RowQueryKind::WideKey),
+    StatementKind::RowQuery(RowQueryKind::RowsBetween),
+    StatementKind::RowQuery(RowQueryKind::RowsUpTo),
+    StatementKind::RowQuery(RowQueryKind::RowsAbove),
+    StatementKind::RowQuery(RowQueryKind::RowsByKey),
+    StatementKind::RowQuery(RowQueryKind::Rows),
+    StatementKind::RowQuery(RowQueryKind::KeyAbove),
+    StatementKind::RowQuery(RowQueryKind::Key),
+    StatementKind::ShowCreate(ShowCreateKind::CreateEvent),
+    StatementKind::ShowCreate(ShowCreateKind::CreateTrigger),
+    StatementKind::ShowCreate(ShowCreateKind::CreateFunction),
+    StatementKind::ShowCreate(ShowCreateKind::CreateProcedure),
+    StatementKind::ShowCreate(ShowCreateKind::CreateView),
+    StatementKind::ShowCreate(ShowCreateKind::CreateTable),
+    StatementKind::ShowCreate(ShowCreateKind::CreateDatabase),
+    StatementKind::Stored(StoredKind::Events),
+    StatementKind::Stored(StoredKind::ViewNeeds),
+    StatementKind::Stored(StoredKind::Routines),
+    StatementKind::Stored(StoredKind::Triggers),
+    StatementKind::Catalogue(CatalogueKind::PrimaryKey),
+    StatementKind::Catalogue(CatalogueKind::Columns),
+    StatementKind::Catalogue(CatalogueKind::Tables),
+    StatementKind::Catalogue(CatalogueKind::Schemas),
+    StatementKind::Catalogue(CatalogueKind::BinaryLogStatus),
+    StatementKind::Catalogue(CatalogueKind::MasterStatus),
+    StatementKind::Load(LoadKind::InsertProgressDump),
+    StatementKind::Load(LoadKind::InsertProgressFile),
+    StatementKind::Load(LoadKind::Insert),
+    StatementKind::Load(LoadKind::CreateProgressDump),
+    StatementKind::Load(LoadKind::CreateProgressFiles),
+    StatementKind::Load(LoadKind::CreateProgress),
+    StatementKind::Load(LoadKind::Create),
+    StatementKind::Load(LoadKind::Use),
+    StatementKind::Transaction(TransactionKind::Rollback),
+    StatementKind::Transaction(TransactionKind::Commit),
+    StatementKind::Transaction(TransactionKind::Start),
+    StatementKind::Transaction(TransactionKind::StartSnapshot),
+    StatementKind::Transaction(TransactionKind::UnlockInstance),
+    StatementKind::Transaction(TransactionKind::UnlockTables),
+    StatementKind::Transaction(TransactionKind::FlushTables),
+    StatementKind::Transaction(TransactionKind::LockInstance),
+    StatementKind::Setting(SettingKind::TimeZone),
+    StatementKind::Setting(SettingKind::RepeatableRead),
+    StatementKind::Setting(SettingKind::CollationConnection),
+    StatementKind::Setting(SettingKind::CharacterSetClient),
+    StatementKind::Setting(SettingKind::SqlMode),
+    StatementKind::Setting(SettingKind::BinaryLogOff),
+    StatementKind::Setting(SettingKind::TimeZoneUtc),
+    StatementKind::Setting(SettingKind::ForeignKeyChecksOff),
+    StatementKind::Setting(SettingKind::NamesBinary),
+    StatementKind::Setting(SettingKind::NamesUtf8mb4),
+    StatementKind::Setting(SettingKind::SetUp),
 ];
 
 fn read_kind<'a>(
@@ -89,8 +101,14 @@ fn read_kind<'a>(
     ensures { IsRead (InRow (kind_row kind)) text.now result }
 {
     match kind {
-        StatementKind::Command(kind) => read_command(alloc, text, kind),
-        StatementKind::Query(kind) => read_query(alloc, text, kind),
+        StatementKind::Setting(kind) => read_setting(alloc, text, kind),
+        StatementKind::Transaction(kind) => read_transaction(text, kind),
+        StatementKind::Load(kind) => read_load(alloc, text, kind),
+        StatementKind::Catalogue(kind) => read_catalogue_query(alloc, text, kind),
+        StatementKind::Stored(kind) => read_stored_query(alloc, text, kind),
+        StatementKind::ShowCreate(kind) => read_show_create(alloc, text, kind),
+        StatementKind::RowQuery(kind) => read_row_query(alloc, text, kind),
+        StatementKind::Progress(kind) => read_progress_query(text, kind),
     }
 }
 
@@ -100,7 +118,8 @@ fn read_kind<'a>(
 /// begins. It is refused for want of memory only where the text is a statement's.
 pub fn statement_read<'a>(alloc: Global, text: &'a [u8]) -> Result<Statement<'a>, StatementFault>
     ensures ok { IfOk result (λ statement. IsReadAs text.now statement) }
-    ensures bad { (place : ℕ) → result ≡ Err (StatementFault.BadStatement place) → Refused Statements text.now place }
+    ensures bad { (place : ℕ) → result ≡ Err (StatementFault.BadStatement place) →
+        Refused Statements text.now place }
     ensures out_of_memory { result ≡ Err StatementFault.OutOfMemory → Statements text.now }
 {
     let mut place = 0;

@@ -1,4 +1,4 @@
-// Readers of numbers with commas between them: the bound of a key of several columns.
+//! Readers of numbers with commas between them: the bound of a key of several columns.
 ghost use Rattle.std.specs.Prelude.{◌≡◌, ◌≤◌, false, length};
 ghost use Rattle.grammar.specs.Language.{Reads, Times};
 ghost use Rattle.statement_forms.specs.Number.{IsNumberRow};

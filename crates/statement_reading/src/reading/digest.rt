@@ -1,4 +1,4 @@
-// Readers of digests.
+//! Readers of digests.
 ghost use Rattle.std.specs.Prelude.{◌≡◌};
 ghost use Rattle.grammar.specs.Language.{Reads};
 ghost use Rattle.statement_reading.specs.Parts.{DigestText};

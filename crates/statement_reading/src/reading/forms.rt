@@ -1,4 +1,4 @@
-// Readers of the forms that several statements have.
+//! Readers of the forms that several statements have.
 ghost use Rattle.std.specs.Prelude.{◌≡◌, ◌++◌};
 ghost use Rattle.sql_cells.specs.Literal.{text_literal};
 ghost use Rattle.sql_cells.specs.Name.{quoted_name};
@@ -36,7 +36,8 @@ pub(crate) fn text_form<'a>(
     word: &'a [u8],
     tail: &'a [u8],
 ) -> Result<Part<'a>, StatementFault>
-    ensures { IsRead (λ value bytes. bytes ≡ word.now ++ text_literal value ++ tail.now) text.now result }
+    ensures { IsRead (λ value bytes. bytes ≡ word.now ++ text_literal value ++ tail.now)
+        text.now result }
 {
     let shape = [
         Slot::Word(word),
@@ -60,7 +61,8 @@ pub(crate) fn texts_form<'a>(
     middle: &'a [u8],
     tail: &'a [u8],
 ) -> Result<Path<'a>, StatementFault>
-    ensures { IsRead (λ path bytes. bytes ≡ word.now ++ text_literal path.schema ++ middle.now ++ text_literal path.name ++ tail.now) text.now result }
+    ensures { IsRead (λ path bytes. bytes ≡ word.now ++ text_literal path.schema ++ middle.now
+        ++ text_literal path.name ++ tail.now) text.now result }
 {
     let shape = [
         Slot::Word(word),
@@ -85,7 +87,8 @@ pub(crate) fn digest_form<'a>(
     word: &'a [u8],
     tail: &'a [u8],
 ) -> Result<Part<'a>, StatementFault>
-    ensures { IsRead (λ digest bytes. IsDigest digest × (bytes ≡ word.now ++ digest ++ tail.now)) text.now result }
+    ensures { IsRead (λ digest bytes. IsDigest digest × (bytes ≡ word.now ++ digest ++ tail.now))
+        text.now result }
 {
     let shape = [
         Slot::Word(word),
@@ -125,7 +128,8 @@ pub(crate) fn path_form<'a>(
     text: &'a [u8],
     word: &'a [u8],
 ) -> Result<Path<'a>, StatementFault>
-    ensures { IsRead (λ path bytes. bytes ≡ word.now ++ dotted path.schema path.name) text.now result }
+    ensures { IsRead (λ path bytes. bytes ≡ word.now ++ dotted path.schema path.name)
+        text.now result }
 {
     let shape = [
         Slot::Word(word),

@@ -1,4 +1,4 @@
-// Readers of the names of a key of two to four columns.
+//! Readers of the names of a key of two to four columns.
 ghost use Rattle.grammar.specs.Language.{Reads};
 ghost use Rattle.statement_reading.specs.Parts.{FourthKey, ThirdKey, LaterKeys, NextKeys, KeyNames};
 

@@ -1,4 +1,4 @@
-// The variable parts of statements.
+//! The variable parts of statements.
 
 /// What a variable part of a text is.
 #[derive(Clone, Copy)]

@@ -1,4 +1,4 @@
-// Readers of quoted names, and of lists of them.
+//! Readers of quoted names, and of lists of them.
 ghost use Rattle.std.specs.Prelude.{Ok};
 ghost use Rattle.grammar.specs.Language.{Reads, Many, One};
 ghost use Rattle.statement_forms.specs.Insert.{is_inside, OpenedName, NamePart, QuotedName, NextName};

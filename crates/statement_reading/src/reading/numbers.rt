@@ -1,4 +1,4 @@
-// Readers of numbers.
+//! Readers of numbers.
 ghost use Rattle.std.specs.Prelude.{◌≡◌, ◌+◌, ◌-◌, ◌*◌, ◌^◌, ◌<◌, ◌≤◌, take, decimal, IfNone, IfSome, IfOk};
 ghost use Rattle.grammar.specs.Language.{Reads};
 ghost use Rattle.statement_reading.specs.Parts.{Within, BoundText};
@@ -15,8 +15,10 @@ pub(crate) struct Number {
 
 // The number with one more digit, if it may have that one and stays below the limit.
 fn longer(value: u128, byte: u8, limit: u128) -> Option<u128>
-    ensures none { IfNone result (48 ≤ byte → byte ≤ 57 → 0 < value → limit ≤ value * 10 + (byte - 48)) }
-    ensures some { IfSome result (λ next. (48 ≤ byte) × (byte ≤ 57) × (0 < value) × (next ≡ value * 10 + (byte - 48)) × (next < limit)) }
+    ensures none { IfNone result (48 ≤ byte → byte ≤ 57 → 0 < value →
+        limit ≤ value * 10 + (byte - 48)) }
+    ensures some { IfSome result (λ next. (48 ≤ byte) × (byte ≤ 57) × (0 < value)
+        × (next ≡ value * 10 + (byte - 48)) × (next < limit)) }
 {
     if value == 0 || byte < b'0' || byte > b'9' {
         return None;
@@ -30,7 +32,8 @@ pub(crate) fn read_number(bytes: &[u8], least: u8, limit: u128) -> Result<Number
     requires least { least ≤ 1 }
     requires some { 10 ≤ limit }
     ensures reads { Reads (Within least limit) bytes.now (number_size result) }
-    ensures value { IfOk result (λ number. (take number.size bytes.now ≡ decimal number.value) × (least ≤ number.value) × (number.value < limit)) }
+    ensures value { IfOk result (λ number. (take number.size bytes.now ≡ decimal number.value)
+        × (least ≤ number.value) × (number.value < limit)) }
 {
     let first = first_byte(bytes);
     if first < b'0' + least || first > b'9' {

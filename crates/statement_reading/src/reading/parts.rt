@@ -1,4 +1,4 @@
-// The parts of a text, as they were read.
+//! The parts of a text, as they were read.
 ghost use Rattle.std.specs.Prelude.{◌≡◌, ◌≤◌, [], length};
 ghost use Rattle.std.specs.List.{slice_index_or};
 ghost use Rattle.statement_reading.specs.Slots.{place_of, parts_with};

@@ -1,4 +1,4 @@
-// Readers of the queries for rows and keys.
+//! Readers of the queries for rows and keys.
 ghost use Rattle.statement_reading.specs.Readings.{IsRead, InRow};
 
 use crate::fault::StatementFault;

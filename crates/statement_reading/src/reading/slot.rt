@@ -1,4 +1,4 @@
-// Shapes of texts: words and parts in a row.
+//! Shapes of texts: words and parts in a row.
 ghost use Rattle.std.specs.Prelude.{◌≡◌, ◌≤◌, [], IsTrue, MatchResult};
 ghost use Rattle.grammar.specs.Language.{Reads, Refused};
 ghost use Rattle.statement_reading.specs.Parts.{part_language};
@@ -55,7 +55,8 @@ fn read_slot(bytes: &[u8], slot: &Slot<'_>, before: &Parts<'_>) -> Result<usize,
 pub(crate) fn read_shape<'a>(text: &'a [u8], slots: &[Slot<'_>]) -> Result<Parts<'a>, usize>
     requires clear { IsTrue (is_clear (places slots.now)) }
     requires few { part_count (places slots.now) ≤ 6 }
-    ensures { MatchResult result (λ parts. HasParts (places slots.now) [] parts text.now) (Refused (Shaped (places slots.now) []) text.now) }
+    ensures { MatchResult result (λ parts. HasParts (places slots.now) [] parts text.now)
+        (Refused (Shaped (places slots.now) []) text.now) }
 {
     let mut parts = Parts::new(text);
     let mut at = 0;

@@ -1,5 +1,5 @@
-// Readers of texts between single quotes, as they are written: the special bytes after backslashes,
-// and no others.
+//! Readers of texts between single quotes, as they are written: the special bytes after backslashes,
+//! and no others.
 ghost use Rattle.std.specs.Prelude.{◌≡◌};
 ghost use Rattle.grammar.specs.Language.{Reads, Many};
 ghost use Rattle.statement_reading.specs.Parts.{is_own, is_written_letter, WrittenByte, OpenedText, WrittenText};

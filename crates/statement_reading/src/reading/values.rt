@@ -1,4 +1,4 @@
-// The values of parts, made from their texts.
+//! The values of parts, made from their texts.
 ghost use Rattle.std.specs.Prelude.{◌≡◌, ◌-◌, ◌<◌, ◌≤◌, ◌^◌, decimal, length, take, drop, pos, negsuc, IfOk};
 ghost use Rattle.std.specs.Fmt.{signed_decimal};
 ghost use Rattle.std.specs.List.{flat_map, list_any};
@@ -6,7 +6,7 @@ ghost use Rattle.sql_cells.specs.Literal.{text_literal};
 ghost use Rattle.sql_cells.specs.Name.{name_byte, quoted_name};
 ghost use Rattle.statement_forms.specs.Insert.{QuotedName};
 ghost use Rattle.statement_reading.specs.Parts.{Names, WrittenText, DigestText, Within, BoundText};
-ghost use Rattle.statement_reading.specs.Readings.{IsDoubled, IsWideSource, has_byte};
+ghost use Rattle.statement_reading.specs.Readings.{IsDoubled, IsKeyPath, IsKeyedSource, IsPath, IsPathOfTexts, IsSource, IsWideSource, has_byte};
 ghost use Rattle.statement_forms.specs.Number.{IsI128};
 ghost use Rattle.statement_forms.specs.Text.{names};
 
@@ -139,7 +139,7 @@ pub(crate) fn path_parts<'a>(
 ) -> Result<Path<'a>, OutOfMemory>
     requires schema { QuotedName schema.now }
     requires name { QuotedName name.now }
-    ensures { IfOk result (λ path. (quoted_name path.schema ≡ schema.now) × (quoted_name path.name ≡ name.now)) }
+    ensures { IfOk result (λ path. IsPath path schema.now name.now) }
 {
     Ok(Path {
         schema: name_part(alloc, schema)?,
@@ -155,7 +155,7 @@ pub(crate) fn path_texts<'a>(
 ) -> Result<Path<'a>, OutOfMemory>
     requires schema { WrittenText schema.now }
     requires name { WrittenText name.now }
-    ensures { IfOk result (λ path. (text_literal path.schema ≡ schema.now) × (text_literal path.name ≡ name.now)) }
+    ensures { IfOk result (λ path. IsPathOfTexts path schema.now name.now) }
 {
     Ok(Path {
         schema: text_part(alloc, schema)?,
@@ -173,7 +173,7 @@ pub(crate) fn key_parts<'a>(
     requires key { QuotedName key.now }
     requires schema { QuotedName schema.now }
     requires table { QuotedName table.now }
-    ensures { IfOk result (λ made. (quoted_name made.key ≡ key.now) × (quoted_name made.path.schema ≡ schema.now) × (quoted_name made.path.name ≡ table.now)) }
+    ensures { IfOk result (λ made. IsKeyPath made key.now schema.now table.now) }
 {
     Ok(KeyPath {
         key: name_part(alloc, key)?,
@@ -191,7 +191,7 @@ pub(crate) fn source_parts<'a>(
     requires columns { Names columns.now }
     requires schema { QuotedName schema.now }
     requires table { QuotedName table.now }
-    ensures { IfOk result (λ made. (names made.columns ≡ columns.now) × (0 < length made.columns) × (quoted_name made.path.schema ≡ schema.now) × (quoted_name made.path.name ≡ table.now)) }
+    ensures { IfOk result (λ made. IsSource made columns.now schema.now table.now) }
 {
     Ok(Source {
         columns: name_parts(alloc, columns)?,
@@ -211,7 +211,7 @@ pub(crate) fn keyed_parts<'a>(
     requires schema { QuotedName schema.now }
     requires table { QuotedName table.now }
     requires key { QuotedName key.now }
-    ensures { IfOk result (λ made. (names made.source.columns ≡ columns.now) × (0 < length made.source.columns) × (quoted_name made.source.path.schema ≡ schema.now) × (quoted_name made.source.path.name ≡ table.now) × (quoted_name made.key ≡ key.now)) }
+    ensures { IfOk result (λ made. IsKeyedSource made columns.now schema.now table.now key.now) }
 {
     Ok(KeyedSource {
         source: source_parts(alloc, columns, schema, table)?,

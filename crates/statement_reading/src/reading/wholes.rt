@@ -1,4 +1,4 @@
-// Readers of statements that are kept whole: the texts of objects, and the INSERTs of data files.
+//! Readers of statements that are kept whole: the texts of objects, and the INSERTs of data files.
 ghost use Rattle.std.specs.Prelude.{◌≡◌};
 ghost use Rattle.object_forms.specs.Head.{HasHead};
 ghost use Rattle.statement_forms.specs.Insert.{AnyInsert};

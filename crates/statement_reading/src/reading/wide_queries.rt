@@ -1,4 +1,4 @@
-// Readers of the queries over keys of two to four columns.
+//! Readers of the queries over keys of two to four columns.
 ghost use Rattle.statement_reading.specs.Readings.{IsRead, InRow};
 
 use crate::fault::StatementFault;
