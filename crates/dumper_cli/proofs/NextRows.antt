@@ -3,7 +3,7 @@ use Rattle.std.proofs.Common.{◌≡◌, ◌<◌, ◌↔◌, ℕ, List, [], ◌�
 use Rattle.link_traits.specs.declared.link.Link.{Ghosts as LinkGhosts}
 use Rattle.link_traits.specs.declared.folder.Shelf.{Ghosts as ShelfGhosts}
 use Rattle.my_session.specs.Awaited.{further}
-use Rattle.my_session.specs.Session.{SessionView, ReaderView, Pending, NextRow, wire_of}
+use Rattle.my_session.specs.Session.{SessionView, Pending, NextRow, IsSameServer, reader_view}
 use Rattle.my_session.specs.declared.fault.SessionFault.{SessionFault}
 use Rattle.my_session.specs.declared.peer.Peer.{Peer}
 use Rattle.wire_forms.specs.Reading.{idle}
@@ -23,17 +23,13 @@ use Rattle.dumper_cli.specs.declared.fault.DumpFault.{DumpFault}
 use Rattle.dumper_cli.specs.declared.fault.DumpFault.TheVariants.{FolderNotEmpty, File, Session as InSession}
 use Rattle.dumper_cli.proofs.Reaching.{Keeps-by, column_added, row_added, column_unfit, row_unfit, row_front, row_memory, rows_end, columns_end, no_columns, row_halts}
 
--- a session as a reader of rows
-abbrev pub as_reader : {L : Type 0} → LinkGhosts L → SessionView L → ReaderView
-as_reader of session = record { wire = wire_of of session; faults = of.faults session.link; peer = session.peer; has_failed = session.has_failed; pending = session.pending }
-
 -- what the next row does to a session
 abbrev pub Nexts : {L : Type 0} → LinkGhosts L → SessionView L → Result (Option Row) SessionFault → SessionView L → Type 0
-Nexts of old result new = NextRow (of.tells old.link) (as_reader of old) result (of.tells new.link) (as_reader of new) × (of.honest old.link ↔ of.honest new.link) × of.same_origin old.link new.link × (of.honest old.link → (of.served new.link).state.terms ≡ (of.served old.link).state.terms)
+Nexts of old result new = NextRow (of.tells old.link) (reader_view of old) result (of.tells new.link) (reader_view of new) × IsSameServer {S = SessionView _} (λ s. of.honest s.link) (λ one other. of.same_origin one.link other.link) (λ s. (of.served s.link).state.terms) old new
 
 module _ {L : Type 0} (of : LinkGhosts L) (joins : (one next last : L) → of.same_origin one next → of.same_origin next last → of.same_origin one last) (old new : SessionView L) where
   pub nexts_keeps : (result : Result (Option Row) SessionFault) → Nexts of old result new → Keeps of old new
-  nexts_keeps result next = Keeps-by of joins old new next.0.still next.0.counted.later next.1 next.2 next.0.peer
+  nexts_keeps result next = Keeps-by of joins old new next.0.keeps.tells next.0.keeps.counted.later next.1.honest next.1.origin next.0.keeps.peer
 
   module _ (has_rows : HasRows old) where
     -- ---- a row
@@ -43,10 +39,10 @@ module _ {L : Type 0} (of : LinkGhosts L) (joins : (one next last : L) → of.sa
       rows_still =
           let same : new.pending ≡ old.pending = next.0.pending in
           record {
-            alive = next.0.has_failed;
+            alive = next.0.keeps.failed;
             some = subst (λ (p : Pending). 0 < p.reading.columns) (sym same) has_rows.some;
             rows = ap (λ (p : Pending). p.reading.awaited) same ∙ has_rows.rows;
-            ends = ap (λ (p : Pending). p.reading.ends) same ∙ has_rows.ends ∙ ap (λ (p : Peer). p.ends) (sym next.0.peer);
+            ends = ap (λ (p : Pending). p.reading.ends) same ∙ has_rows.ends ∙ ap (λ (p : Peer). p.ends) (sym next.0.keeps.peer);
             form = ap (λ (p : Pending). p.form) same ∙ has_rows.form;
           }
 
@@ -96,7 +92,7 @@ module _ {L : Type 0} (of : LinkGhosts L) (joins : (one next last : L) → of.sa
         pub nexts_no_row : (fault : DumpFault) → Unwritten shelf columns (row_cells found) found.place file new_file fault → (asked : Asked) (rows : List (List Cell)) (start : Start) → Reached of asked (awaits_rows old.pending.reading columns rows) start old → Broke of shelf asked start file.shelf new.link new_file.shelf fault
         nexts_no_row (FolderNotEmpty name) why asked rows start at = absurd why
         nexts_no_row File why asked rows start at = (
-          record { later = (let one = at.later in let two = next.0.counted.later in omega arith); front = row_front of asked start old new row_keeps found next.0.takes (awaits_rows old.pending.reading columns rows) at },
+          record { later = (let one = at.later in let two = next.0.keeps.counted.later in omega arith); front = row_front of asked start old new row_keeps found next.0.takes (awaits_rows old.pending.reading columns rows) at },
           why,
         )
         nexts_no_row (InSession fault) why asked rows start at = unspelled_halts columns rows fault why asked start at
@@ -105,7 +101,7 @@ module _ {L : Type 0} (of : LinkGhosts L) (joins : (one next last : L) → of.sa
 
     module _ (next : Nexts of old (Ok None) new) where
       end_ready : IsReady new
-      end_ready = record { alive = next.0.has_failed; none_pending = next.0.pending ∙ ap (λ (p : Peer). idle p.ends) (sym next.0.peer) }
+      end_ready = record { alive = next.0.keeps.failed; none_pending = next.0.pending ∙ ap (λ (p : Peer). idle p.ends) (sym next.0.keeps.peer) }
 
       end_keeps : Keeps of old new
       end_keeps = nexts_keeps (Ok None) next
@@ -131,4 +127,4 @@ module _ {L : Type 0} (of : LinkGhosts L) (joins : (one next last : L) → of.sa
 
     pub nexts_halt : (fault : SessionFault) → Nexts of old (Err fault) new → (asked : Asked) (start : Start) (stage : Stage) → doing asked stage ≡ awaiting (further Select old.pending.reading) → Reached of asked stage start old → Halted of asked start new.link fault
     nexts_halt fault next asked start stage waits at =
-        row_halts of asked start old new (nexts_keeps (Err fault) next) has_rows.form fault (λ e. next.0.counted.failed (ap (λ (f : SessionFault). Err f) e)) next.0.takes stage waits at
+        row_halts of asked start old new (nexts_keeps (Err fault) next) has_rows.form fault (λ e. next.0.keeps.counted.failed (ap (λ (f : SessionFault). Err f) e)) next.0.takes stage waits at

@@ -13,11 +13,13 @@ use Rattle.dumper_cli.specs.declared.column.Column.{Column}
 abbrev pub text_types : List (List ℕ)
 text_types = codes "char" ∷ codes "varchar" ∷ codes "tinytext" ∷ codes "text" ∷ codes "mediumtext" ∷ codes "longtext" ∷ codes "enum" ∷ codes "set" ∷ codes "date" ∷ codes "time" ∷ codes "datetime" ∷ codes "timestamp" ∷ []
 
+-- the kind of literal that cells of such a column are written as; None for a type that can't be dumped
 abbrev pub kind_of : List ℕ → Option CellKind
 kind_of data_type =
     if is_number_type data_type then Some Number else
     (if list_any (bytes_eq data_type) text_types then Some Text else None)
 
+-- the bytes are UTF-8
 abbrev pub is_utf8 : List ℕ → Bool
 is_utf8 bytes = utf8_valid_len bytes == length bytes
 

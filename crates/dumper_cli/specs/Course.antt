@@ -67,6 +67,7 @@ pub record HasOneOutcome (asked : Asked) (start : Wire) : Type 0 where
   pub one_end : (fault other : SessionFault) → EndsWith asked start fault → EndsWith asked start other → fault ≡ other
   pub whole_does_not_end : (columns : List Column) (rows : List (List Cell)) (fault : SessionFault) → IsWhole asked columns rows start → ¬ EndsWith asked start fault
 
+-- whatever the bytes of the server are, a dump by them has at most one outcome: one list of columns and one of rows, or one fault
 abbrev pub AConversationHasOneOutcome : Type 0
 AConversationHasOneOutcome = (asked : Asked) (start : Wire) → HasOneOutcome asked start
 

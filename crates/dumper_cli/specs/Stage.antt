@@ -49,9 +49,11 @@ pub data Doing : Type 0 where
   awaiting : Awaited → Doing
   nothing : Doing
 
+-- the names of the columns, in their order
 abbrev pub column_names : List Column → List (List ℕ)
 column_names columns = map (λ column. column.name) columns
 
+-- what a dump does at each stage of its course, from the greeting to the end of the rows
 abbrev pub doing : Asked → Stage → Doing
 doing asked awaits_greeting = awaiting greeting
 doing asked (sends_response scramble ends) = answering (response asked.user (password_answer asked.password scramble) ends) (awaits_decision ends)
@@ -70,32 +72,38 @@ doing asked (awaits_row_count ends columns) = awaiting (count Select)
 doing asked (awaits_rows reading columns rows) = awaiting (further Select reading)
 doing asked (is_over columns rows) = nothing
 
+-- after the greeting the response to its scramble is sent
 abbrev pub after_greeting : Result Greeting LoginFault → Option Stage
 after_greeting (Ok found) = Some (sends_response found.scramble found.ends)
 after_greeting (Err fault) = None
 
+-- after a request for another plugin its scramble is answered; None where that isn't one that a session answers
 abbrev pub after_switch : Ends → Result Switch LoginFault → Option Stage
 after_switch ends (Ok found) = Some (sends_switch_answer found.scramble ends)
 after_switch ends (Err fault) = None
 
+-- after the reply to the response: an OK leads to the set-up statement, anything else but an ERR has to ask for another plugin
 abbrev pub after_decision : Ends → List ℕ → Option Reply → Option Stage
 after_decision ends message (Some Done) = Some (sends_set_up ends)
 after_decision ends message (Some (Refused refusal)) = None
 after_decision ends message (Some (Columns columns)) = after_switch ends (switch_of message)
 after_decision ends message None = after_switch ends (switch_of message)
 
+-- after an OK the dump is at this stage; no other reply leads on
 abbrev pub after_ok : Stage → Option Reply → Option Stage
 after_ok next (Some Done) = Some next
 after_ok next (Some (Refused refusal)) = None
 after_ok next (Some (Columns columns)) = None
 after_ok next None = None
 
+-- after the number of columns of a result set the dump is at this stage of it; no other reply leads on
 abbrev pub after_count : Ends → (Reading → Stage) → Option Reply → Option Stage
 after_count ends next (Some Done) = None
 after_count ends next (Some (Refused refusal)) = None
 after_count ends next (Some (Columns columns)) = Some (next (columns_counted ends columns))
 after_count ends next None = None
 
+-- the dump goes on with this column after the others; None where the row tells no column that can be dumped
 abbrev pub with_column : (List Column → Stage) → List Column → Option Column → Option Stage
 with_column next columns (Some column) = Some (next (columns ++ column ∷ []))
 with_column next columns None = None
@@ -105,6 +113,7 @@ abbrev pub with_columns : Ends → List Column → Option Stage
 with_columns ends [] = None
 with_columns ends (column ∷ columns) = Some (asks_rows ends (column ∷ columns))
 
+-- after a message of the result set about the columns: a definition, a row that tells a column, or the end
 abbrev pub after_columns : Reading → List Column → Further → Option Stage
 after_columns reading columns definition = Some (awaits_columns (reading_after reading definition) columns)
 after_columns reading columns (row cells) = with_column (awaits_columns reading) columns (column_of cells)
@@ -112,10 +121,12 @@ after_columns reading columns end = with_columns reading.ends columns
 after_columns reading columns (refused refusal) = None
 after_columns reading columns garbled = None
 
+-- the stage, where the row has the cells that its columns ask for
 abbrev pub stage_if : Bool → Stage → Option Stage
 stage_if true stage = Some stage
 stage_if false stage = None
 
+-- after a message of the result set of the rows: a definition, a row, or the end, at which the dump is over
 abbrev pub after_rows : Reading → List Column → List (List Cell) → Further → Option Stage
 after_rows reading columns rows definition = Some (awaits_rows (reading_after reading definition) columns rows)
 after_rows reading columns rows (row cells) = stage_if (is_row_of columns cells) (awaits_rows reading columns (rows ++ cells ∷ []))

@@ -25,6 +25,7 @@ abbrev pub is_free_word : List ℕ → Bool
 is_free_word [] = false
 is_free_word (byte ∷ bytes) = not (byte == 45)
 
+-- the four options that every command line has, in their order
 abbrev pub are_options : List ℕ → List ℕ → List ℕ → List ℕ → Bool
 are_options a b c d = bytes_eq a (codes "-u") && bytes_eq b (codes "-B") && bytes_eq c (codes "-T") && bytes_eq d (codes "-o")
 
@@ -36,6 +37,7 @@ is_password option password = bytes_eq option (codes "-p") && is_free_word passw
 abbrev pub are_words : Asked → Bool
 are_words asked = is_plain_word asked.user && is_plain_word asked.schema && is_plain_word asked.table && is_free_word asked.path
 
+-- what is asked for, where the words have their forms
 abbrev pub asked_if : Bool → Asked → Option Asked
 asked_if true asked = Some asked
 asked_if false asked = None

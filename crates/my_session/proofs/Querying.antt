@@ -20,68 +20,40 @@ use Rattle.statement_forms.specs.Text.{query_text}
 use Rattle.statement_forms.specs.declared.command.Command.TheVariants.{Use}
 use Rattle.statement_forms.specs.declared.form.Form.{Form}
 use Rattle.statement_forms.specs.declared.query.Query.{Query}
-use Rattle.statement_forms.specs.declared.query.Query.TheVariants.{CreateTable, CreateView, CreateProcedure, CreateFunction, CreateTrigger, CreateEvent}
 use Rattle.my_session.proofs.Running.{leads_on, leads_said, leads_heard}
 use Rattle.my_session.specs.Awaited.{Awaited, count, further}
 use Rattle.my_session.specs.Halt.{Halts, Unsaid, Stops, at_message, at_payload}
 use Rattle.my_session.specs.Heard.{HearsReply, HearsDefinition, IsRowOf}
 use Rattle.my_session.specs.Lead.{lead_of}
 use Rattle.my_session.specs.Session.{Runs, rows_of}
-use Rattle.my_session.specs.Statements.{IsRun, RunAwaits, RunSends, IsLed, LeadAwaits, LeadSends, IsAsked, IsDescribed, QueryAwaits, a_lead, a_count, a_definition, QuerySends, the_lead, the_query, query_payload}
+use Rattle.my_session.specs.Statements.{IsRun, RunAwaits, RunSends, IsLedBy, LeadAwaitsBy, LeadSendsBy, IsLed, LeadAwaits, LeadSends, IsAsked, IsDescribed, QueryAwaits, a_lead, a_count, a_definition, QuerySends, the_lead, the_query, query_payload}
 use Rattle.my_session.specs.Wire.{Wire, Step, commands, hears, ends, Takes, Sent}
 use Rattle.my_session.specs.declared.fault.SessionFault.{SessionFault}
 
 -- ---- the lead
 
-led_by : (query : Query) (schema : List ℕ) (steps : List Step) → lead_of query ≡ Some schema → IsRun (Use schema) steps → IsLed query steps
-led_by (CreateTable own name) schema steps is run = let same : schema ≡ own = cc in subst (λ (s : List ℕ). IsRun (Use s) steps) same run
-led_by (CreateView own name) schema steps is run = let same : schema ≡ own = cc in subst (λ (s : List ℕ). IsRun (Use s) steps) same run
-led_by (CreateProcedure own name) schema steps is run = let same : schema ≡ own = cc in subst (λ (s : List ℕ). IsRun (Use s) steps) same run
-led_by (CreateFunction own name) schema steps is run = let same : schema ≡ own = cc in subst (λ (s : List ℕ). IsRun (Use s) steps) same run
-led_by (CreateTrigger own name) schema steps is run = let same : schema ≡ own = cc in subst (λ (s : List ℕ). IsRun (Use s) steps) same run
-led_by (CreateEvent own name) schema steps is run = let same : schema ≡ own = cc in subst (λ (s : List ℕ). IsRun (Use s) steps) same run
-led_by query schema steps is run = absurd (cc)
+led_by : (query : Query) (lead : Option (List ℕ)) (steps : List Step) → lead_of query ≡ lead → IsLedBy lead steps → IsLed query steps
+led_by query lead steps is run = subst (λ (l : Option (List ℕ)). IsLedBy l steps) (sym is) run
 
-awaits_by : (query : Query) (schema : List ℕ) (steps : List Step) (awaited : Awaited) → lead_of query ≡ Some schema → RunAwaits (Use schema) steps awaited → LeadAwaits query steps awaited
-awaits_by (CreateTable own name) schema steps awaited is run = let same : schema ≡ own = cc in subst (λ (s : List ℕ). RunAwaits (Use s) steps awaited) same run
-awaits_by (CreateView own name) schema steps awaited is run = let same : schema ≡ own = cc in subst (λ (s : List ℕ). RunAwaits (Use s) steps awaited) same run
-awaits_by (CreateProcedure own name) schema steps awaited is run = let same : schema ≡ own = cc in subst (λ (s : List ℕ). RunAwaits (Use s) steps awaited) same run
-awaits_by (CreateFunction own name) schema steps awaited is run = let same : schema ≡ own = cc in subst (λ (s : List ℕ). RunAwaits (Use s) steps awaited) same run
-awaits_by (CreateTrigger own name) schema steps awaited is run = let same : schema ≡ own = cc in subst (λ (s : List ℕ). RunAwaits (Use s) steps awaited) same run
-awaits_by (CreateEvent own name) schema steps awaited is run = let same : schema ≡ own = cc in subst (λ (s : List ℕ). RunAwaits (Use s) steps awaited) same run
-awaits_by query schema steps awaited is run = absurd (cc)
+awaits_by : (query : Query) (lead : Option (List ℕ)) (steps : List Step) (awaited : Awaited) → lead_of query ≡ lead → LeadAwaitsBy lead steps awaited → LeadAwaits query steps awaited
+awaits_by query lead steps awaited is run = subst (λ (l : Option (List ℕ)). LeadAwaitsBy l steps awaited) (sym is) run
 
-sends_by : (query : Query) (schema : List ℕ) (steps : List Step) (payload : List ℕ) → lead_of query ≡ Some schema → RunSends (Use schema) steps payload → LeadSends query steps payload
-sends_by (CreateTable own name) schema steps payload is run = let same : schema ≡ own = cc in subst (λ (s : List ℕ). RunSends (Use s) steps payload) same run
-sends_by (CreateView own name) schema steps payload is run = let same : schema ≡ own = cc in subst (λ (s : List ℕ). RunSends (Use s) steps payload) same run
-sends_by (CreateProcedure own name) schema steps payload is run = let same : schema ≡ own = cc in subst (λ (s : List ℕ). RunSends (Use s) steps payload) same run
-sends_by (CreateFunction own name) schema steps payload is run = let same : schema ≡ own = cc in subst (λ (s : List ℕ). RunSends (Use s) steps payload) same run
-sends_by (CreateTrigger own name) schema steps payload is run = let same : schema ≡ own = cc in subst (λ (s : List ℕ). RunSends (Use s) steps payload) same run
-sends_by (CreateEvent own name) schema steps payload is run = let same : schema ≡ own = cc in subst (λ (s : List ℕ). RunSends (Use s) steps payload) same run
-sends_by query schema steps payload is run = absurd (cc)
-
-led_none : (query : Query) → lead_of query ≡ None → IsLed query []
-led_none (CreateTable own name) is = absurd (cc)
-led_none (CreateView own name) is = absurd (cc)
-led_none (CreateProcedure own name) is = absurd (cc)
-led_none (CreateFunction own name) is = absurd (cc)
-led_none (CreateTrigger own name) is = absurd (cc)
-led_none (CreateEvent own name) is = absurd (cc)
-led_none query is = refl
+sends_by : (query : Query) (lead : Option (List ℕ)) (steps : List Step) (payload : List ℕ) → lead_of query ≡ lead → LeadSendsBy lead steps payload → LeadSends query steps payload
+sends_by query lead steps payload is run = subst (λ (l : Option (List ℕ)). LeadSendsBy l steps payload) (sym is) run
 
 pub takes_no_lead : (query : Query) (wire : Wire) → lead_of query ≡ None → Takes (IsLed query) wire wire
-takes_no_lead query wire is = record { steps = []; so = led_none query is; leads = ends }
+takes_no_lead query wire is = record { steps = []; so = led_by query None [] is refl; leads = ends }
 
 takes_lead : (query : Query) (schema : List ℕ) (old new : Wire) → lead_of query ≡ Some schema → Takes (IsRun (Use schema)) old new → Takes (IsLed query) old new
-takes_lead query schema old new is run = record { steps = run.steps; so = led_by query schema run.steps is run.so; leads = run.leads }
+takes_lead query schema old new is run = record { steps = run.steps; so = led_by query (Some schema) run.steps is run.so; leads = run.leads }
 
 pub led : (query : Query) (schema part : List ℕ) (old new : Wire) (result : Result (Unit {0}) SessionFault) → lead_of query ≡ Some schema → part ≡ schema → Runs (Use part) old result new → OnOk result (Takes (IsLed query) old new)
 led query schema part old new (Ok finished) is same runs = takes_lead query part old new (is ∙ ap (λ (s : List ℕ). Some s) (sym same)) runs
 led query schema part old new (Err fault) is same runs = tt
 
 stops_lead : (query : Query) (schema : List ℕ) (old new : Wire) (fault : SessionFault) → lead_of query ≡ Some schema → Stops (RunAwaits (Use schema)) (RunSends (Use schema)) old fault new → Stops (LeadAwaits query) (LeadSends query) old fault new
-stops_lead query schema old new fault is (at_message {steps = steps} {awaited = awaited} awaits leads halts) = at_message (awaits_by query schema steps awaited is awaits) leads halts
-stops_lead query schema old new fault is (at_payload {steps = steps} {payload = payload} sends leads unsaid) = at_payload (sends_by query schema steps payload is sends) leads unsaid
+stops_lead query schema old new fault is (at_message {steps = steps} {awaited = awaited} awaits leads halts) = at_message (awaits_by query (Some schema) steps awaited is awaits) leads halts
+stops_lead query schema old new fault is (at_payload {steps = steps} {payload = payload} sends leads unsaid) = at_payload (sends_by query (Some schema) steps payload is sends) leads unsaid
 
 pub not_led : (query : Query) (schema part : List ℕ) (old new : Wire) (result : Result (Unit {0}) SessionFault) → lead_of query ≡ Some schema → part ≡ schema → Runs (Use part) old result new → IfErr result (λ fault. Stops (LeadAwaits query) (LeadSends query) old fault new)
 not_led query schema part old new (Ok finished) is same runs = tt

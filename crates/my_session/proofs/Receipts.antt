@@ -1,5 +1,5 @@
 -- A message that is taken off a link piece by piece.
-use Rattle.std.proofs.Common.{◌≡◌, ◌≤◌, ◌<◌, ◌+◌, ◌-◌, ◌*◌, ◌^◌, ◌↔◌, ℕ, Bool, true, false, List, [], ◌++◌, length, take, refl, sym, ◌∙◌, ap, subst, inl, inr, arith, append_assoc, length-append, Result, Ok, Err, OnOk, OnErr, ◌≢◌}
+use Rattle.std.proofs.Common.{◌≡◌, ◌≤◌, ◌<◌, ◌+◌, ◌-◌, ◌*◌, ◌^◌, ◌↔◌, ℕ, Bool, true, false, List, [], ◌++◌, length, take, refl, sym, ◌∙◌, ap, subst, inl, inr, arith, append_assoc, length-append, Result, Ok, Err, OnOk, OnErr, IfErr, ◌≢◌}
 use Rattle.std.proofs.lemmas.List.{append-nil, length-take-le, take-append-le}
 use Rattle.honest_server.specs.Link.{Receives as TakesServed}
 use Rattle.link_traits.specs.Link.{Receives, stream}
@@ -16,12 +16,12 @@ use Rattle.my_packets.specs.declared.frames.FrameFault.TheVariants.{BadSequence,
 use Rattle.my_session.proofs.Exact.{exact_at_first, exact_after}
 use Rattle.my_session.proofs.Links.{taken_off, recv_alive, recv_gives}
 use Rattle.my_session.proofs.Payloads.{part_is_not_all}
-use Rattle.my_session.proofs.Staying.{stays_begin, stays_on}
+use Rattle.my_session.proofs.Staying.{stays_begin, stays_on, keeps_ok, keeps_err}
 use Rattle.my_session.proofs.Within.{wrong_within, full_within}
-use Rattle.my_session.specs.Channel.{wire_at}
+use Rattle.my_session.specs.Channel.{link_at, wire_at, HearsNext, HearsNone, IsOfChannel}
 use Rattle.my_session.specs.Halt.{Misheard}
-use Rattle.my_session.specs.Receiving.{Fetches, Gathers, IsExact, Unfetched, Unsettled}
-use Rattle.my_session.specs.Serving.{IsServing, MessageWaits, Stays, Gives, Delivers}
+use Rattle.my_session.specs.Receiving.{Fetches, Gathers, IsExact, IsReader, Unfetched, Unsettled, reader_at}
+use Rattle.my_session.specs.Serving.{IsServing, MessageWaits, Keeps, Stays, Gives, Delivers}
 use Rattle.my_session.specs.Wire.{Hears, IsOnward, within}
 use Rattle.my_session.specs.declared.fault.SessionFault.{SessionFault}
 use Rattle.my_session.specs.declared.fault.SessionFault.TheVariants.{Link, Refused, Garbled, NotProtocol10, PluginUnsupported, TooLong, StreamTooLong, OutOfMemory}
@@ -46,7 +46,7 @@ module _ {L : Type 0} (of : Ghosts L) where
   -- a piece that was taken off a link
   pub fetches_piece : (old new : L) (E : Type 0) (wants : ℕ) (before now : Unread) (taken count : ℕ) (buffer rest : List ℕ) → (of.tells old → Receives {E = E} (of.told old) buffer (Ok count) (of.told new)) → (of.honest old → TakesServed {E = E} (of.served old) buffer (Ok count) (of.served new))
       → now ≡ record before { message = []; bytes = before.bytes ++ take count (buffer ++ rest) } → 0 < count → count ≤ length buffer → length buffer ≤ wants
-      → Fetches of wants old new before now taken (taken + count)
+      → Fetches of wants (reader_at old before taken) (reader_at new now (taken + count))
   fetches_piece old new E wants before now taken count buffer rest received served now_is some fits few =
       let is : take count (buffer ++ rest) ≡ take count buffer = take-append-le count buffer rest fits in
       let size : length (take count buffer) ≡ count = length-take-le count buffer fits in
@@ -62,7 +62,7 @@ module _ {L : Type 0} (of : Ghosts L) where
         gives = λ h. subst (λ (l : List ℕ). Gives of l old new) (sym is) (recv_gives of old new E buffer count served h);
       }
 
-  pub gathers_none : ((one : L) → of.same_origin one one) → (link : L) (frames : Unread) (taken : ℕ) → frames.bytes ≡ [] → Gathers of link link frames frames taken taken
+  pub gathers_none : ((one : L) → of.same_origin one one) → (link : L) (frames : Unread) (taken : ℕ) → frames.bytes ≡ [] → Gathers of (reader_at link frames taken) (reader_at link frames taken)
   gathers_none begins link frames taken none =
       let size : length frames.bytes ≡ 0 = ap (λ (l : List ℕ). length l) none in
       record {
@@ -80,8 +80,8 @@ module _ {L : Type 0} (of : Ghosts L) where
         gives = λ serving. record { alive = serving.alive; state = refl; waits = ap (λ (l : List ℕ). l ++ (of.served link).waiting) (sym none) };
       }
 
-  pub gathers_more : ((one next last : L) → of.same_origin one next → of.same_origin next last → of.same_origin one last) → (start link next : L) (first frames now : Unread) (wants taken_first taken taken_now : ℕ) → Gathers of start link first frames taken_first taken → 0 < wants → Wants frames.limit frames.id frames.bytes wants
-      → (of.tells link ↔ of.tells next) → of.faults link ≤ of.faults next → (of.tells link → (of.told next).sent ≡ (of.told link).sent) → Stays of link next → Fetches of wants link next frames now taken taken_now → Gathers of start next first now taken_first taken_now
+  pub gathers_more : ((one next last : L) → of.same_origin one next → of.same_origin next last → of.same_origin one last) → (start link next : L) (first frames now : Unread) (wants taken_first taken taken_now : ℕ) → Gathers of (reader_at start first taken_first) (reader_at link frames taken) → 0 < wants → Wants frames.limit frames.id frames.bytes wants
+      → (of.tells link ↔ of.tells next) → of.faults link ≤ of.faults next → (of.tells link → (of.told next).sent ≡ (of.told link).sent) → Stays of link next → Fetches of wants (reader_at link frames taken) (reader_at next now taken_now) → Gathers of (reader_at start first taken_first) (reader_at next now taken_now)
   gathers_more joins start link next first frames now wants taken_first taken taken_now gathers some wanted tells later sent stays fetches =
       let same = fetches.frames in
       let bytes_are : now.bytes ≡ frames.bytes ++ fetches.piece = ap (λ (u : Unread). u.bytes) same in
@@ -117,7 +117,7 @@ module _ {L : Type 0} (of : Ghosts L) where
       }
 
   -- where a whole message waited at the start, some of it waits as long as it isn't whole
-  pub gathered_waits : (start link : L) (first frames : Unread) (taken_first taken wants : ℕ) → Gathers of start link first frames taken_first taken → (IsServing of start → MessageWaits first.id (of.served start).waiting) → 0 < wants → Wants frames.limit frames.id frames.bytes wants
+  pub gathered_waits : (start link : L) (first frames : Unread) (taken_first taken wants : ℕ) → Gathers of (reader_at start first taken_first) (reader_at link frames taken) → (IsServing of start → MessageWaits first.id (of.served start).waiting) → 0 < wants → Wants frames.limit frames.id frames.bytes wants
       → IsServing of link → (of.served link).waiting ≢ []
   gathered_waits start link first frames taken_first taken wants gathers waits some wanted serving none =
       let before : IsServing of start = record { honest = gathers.stays.honest.1 serving.honest; alive = gathers.stays.back (gathers.stays.honest.1 serving.honest) serving.alive } in
@@ -126,7 +126,7 @@ module _ {L : Type 0} (of : Ghosts L) where
       (sym (append-nil frames.bytes) ∙ ap (λ (l : List ℕ). frames.bytes ++ l) (sym none) ∙ sym (gathers.gives before).waits ∙ message.waits ∙ ap (λ (n : ℕ). packets n message.message ++ message.after) (sym gathers.id))
       (wanted.part some)
 
-  module _ (start link : L) (first frames : Unread) (taken_first taken : ℕ) (gathers : Gathers of start link first frames taken_first taken) (limited : first.limit ≡ 67108864) (inside : taken ≤ 2 ^ 62) where
+  module _ (start link : L) (first frames : Unread) (taken_first taken : ℕ) (gathers : Gathers of (reader_at start first taken_first) (reader_at link frames taken)) (limited : first.limit ≡ 67108864) (inside : taken ≤ 2 ^ 62) where
     ends_exactly : (new : Unread) → Passes frames new → new.bytes ≡ []
     ends_exactly new passes =
         gathers.exact.ends new.message new.bytes (subst (λ (n : ℕ). HasMessage n first.id new.message frames.bytes new.bytes) gathers.limit (subst (λ (n : ℕ). HasMessage frames.limit n new.message frames.bytes new.bytes) gathers.id passes.message))
@@ -157,7 +157,7 @@ module _ {L : Type 0} (of : Ghosts L) where
     pub gathered_onward : (new : Unread) → Passes frames new → IsOnward taken_first taken
     gathered_onward new passes = let size = whole_size new passes in let all = gathers.taken in record { more = omega arith; within = inside }
 
-    pub gathered_hears : (new : Unread) → Passes frames new → of.tells start → Hears new.message (wire_at of start taken_first first.id) (wire_at of link taken new.id)
+    pub gathered_hears : (new : Unread) → Passes frames new → of.tells start → Hears new.message (wire_at of (link_at start taken_first first.id)) (wire_at of (link_at link taken new.id))
     gathered_hears new passes t =
         let size = whole_size new passes in
         let all = gathers.taken in
@@ -185,13 +185,25 @@ module _ {L : Type 0} (of : Ghosts L) where
           id = passes.id ∙ ap (λ (n : ℕ). id_after (packet_count (length new.message)) n) gathers.id;
         }
 
-    wrong_here : (fault : FrameFault) → IsWrong frames.limit frames.id frames.bytes fault → of.tells start → IsWrong 67108864 first.id (within (wire_at of start taken_first first.id)) fault
+    pub gathered_next : (new : Unread) → Passes frames new → HearsNext of new.message (link_at start taken_first first.id) (link_at link taken new.id)
+    gathered_next new passes = record {
+      alive = gathered_alive new passes;
+      delivers = gathered_delivers new passes;
+      onward = gathered_onward new passes;
+      heard = gathered_hears new passes;
+    }
+
+    pub gathered_reader : (result : Result (Unit {0}) SessionFault) (new : Unread) → OnOk result (Passes frames new) → OnErr result (new ≡ frames) → IsReader first taken_first → IsReader new taken
+    gathered_reader (Ok done) new passes same before = record { limit = passes.limit ∙ gathers.limit ∙ before.limit; place = gathered_place (Ok done) new passes same before.place; within = inside }
+    gathered_reader (Err fault) new passes same before = record { limit = ap (λ (u : Unread). u.limit) same ∙ gathers.limit ∙ before.limit; place = gathered_place (Err fault) new passes same before.place; within = inside }
+
+    wrong_here : (fault : FrameFault) → IsWrong frames.limit frames.id frames.bytes fault → of.tells start → IsWrong 67108864 first.id (within (wire_at of (link_at start taken_first first.id))) fault
     wrong_here fault wrong t =
         let all = gathers.taken in
         wrong_within first.id (2 ^ 62 - taken_first) frames.bytes (stream (of.told link)) (stream (of.told start)) fault (omega arith) (gathers.stream t)
         (subst (λ (n : ℕ). IsWrong n first.id frames.bytes fault) (gathers.limit ∙ limited) (subst (λ (n : ℕ). IsWrong frames.limit n frames.bytes fault) gathers.id wrong))
 
-    pub gathered_wrong : (fault : SessionFault) (id : ℕ) → Unsettled frames taken_first fault → of.tells start → Misheard (wire_at of start taken_first first.id) fault (wire_at of link taken id)
+    pub gathered_wrong : (fault : SessionFault) (id : ℕ) → Unsettled frames taken_first fault → of.tells start → Misheard (wire_at of (link_at start taken_first first.id)) fault (wire_at of (link_at link taken id))
     gathered_wrong Link id why t = absurd why
     gathered_wrong (Refused form refusal) id why t = absurd why
     gathered_wrong (Garbled place) id why t = record {
@@ -206,7 +218,7 @@ module _ {L : Type 0} (of : Ghosts L) where
     gathered_wrong OutOfMemory id why t = absurd why
 
     pub gathered_part : (fault : SessionFault) (wants id taken_now : ℕ) (next : L) → 0 < wants → Wants frames.limit frames.id frames.bytes wants → (of.tells link → (of.told next).sent ≡ (of.told link).sent) → Unfetched taken fault
-        → of.tells start → Misheard (wire_at of start taken_first first.id) fault (wire_at of next taken_now id)
+        → of.tells start → Misheard (wire_at of (link_at start taken_first first.id)) fault (wire_at of (link_at next taken_now id))
     gathered_part Link wants id taken_now next some wanted sent why t = sent (gathers.tells.0 t) ∙ gathers.sent t
     gathered_part (Refused form refusal) wants id taken_now next some wanted sent why t = absurd why
     gathered_part (Garbled place) wants id taken_now next some wanted sent why t = absurd why
@@ -227,3 +239,34 @@ module _ {L : Type 0} (of : Ghosts L) where
           sent (gathers.tells.0 t) ∙ gathers.sent t,
         )
     gathered_part OutOfMemory wants id taken_now next some wanted sent why t = sent (gathers.tells.0 t) ∙ gathers.sent t
+
+    pub settled_keeps : (result : Result (Unit {0}) SessionFault) → IfErr result (Unsettled frames taken_first) → Keeps of start link result
+    settled_keeps (Ok done) why = keeps_ok of done start link gathers.stays gathers.tells gathers.later
+    settled_keeps (Err fault) why = keeps_err of fault start link gathers.stays gathers.tells gathers.later (λ is. absurd (subst (λ (f : SessionFault). Unsettled frames taken_first f) is why))
+
+    unsettled_kind : (fault : SessionFault) → Unsettled frames taken_first fault → IsOfChannel fault
+    unsettled_kind Link why = absurd why
+    unsettled_kind (Refused form refusal) why = absurd why
+    unsettled_kind (Garbled place) why = tt
+    unsettled_kind (NotProtocol10 version) why = absurd why
+    unsettled_kind (PluginUnsupported name) why = absurd why
+    unsettled_kind (TooLong size) why = tt
+    unsettled_kind StreamTooLong why = absurd why
+    unsettled_kind OutOfMemory why = absurd why
+
+    pub gathered_none : (fault : SessionFault) (id : ℕ) → Unsettled frames taken_first fault → HearsNone of (link_at start taken_first first.id) (link_at link taken id) fault
+    gathered_none fault id why = record { kind = unsettled_kind fault why; misheard = gathered_wrong fault id why }
+
+    unfetched_kind : (fault : SessionFault) → Unfetched taken fault → IsOfChannel fault
+    unfetched_kind Link why = tt
+    unfetched_kind (Refused form refusal) why = absurd why
+    unfetched_kind (Garbled place) why = absurd why
+    unfetched_kind (NotProtocol10 version) why = absurd why
+    unfetched_kind (PluginUnsupported name) why = absurd why
+    unfetched_kind (TooLong size) why = absurd why
+    unfetched_kind StreamTooLong why = tt
+    unfetched_kind OutOfMemory why = tt
+
+    pub fetched_none : (fault : SessionFault) (wants id taken_now : ℕ) (next : L) → 0 < wants → Wants frames.limit frames.id frames.bytes wants → (of.tells link → (of.told next).sent ≡ (of.told link).sent) → Unfetched taken fault
+        → HearsNone of (link_at start taken_first first.id) (link_at next taken_now id) fault
+    fetched_none fault wants id taken_now next some wanted sent why = record { kind = unfetched_kind fault why; misheard = gathered_part fault wants id taken_now next some wanted sent why }

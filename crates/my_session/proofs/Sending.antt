@@ -1,5 +1,5 @@
 -- What sending does to what is still to be heard.
-use Rattle.std.proofs.Common.{◌≡◌, ◌<◌, ◌≤◌, ◌+◌, ◌%◌, List, [], ◌∷◌, ◌++◌, ℕ, false, length, arith, refl, sym, ◌∙◌, ap, subst, append_assoc, Result, Ok, Err, OnOk}
+use Rattle.std.proofs.Common.{◌≡◌, ◌<◌, ◌≤◌, ◌+◌, ◌%◌, List, [], ◌∷◌, ◌++◌, ℕ, false, length, arith, refl, sym, ◌∙◌, ap, subst, append_assoc, Result, Ok, Err, OnOk, IfErr}
 use Rattle.honest_server.specs.Link.{IsExchanged, IsNoCreate, MaySend}
 use Rattle.honest_server.specs.Exchange.{BeginsAt, IsLoggingIn, IsWholeMessage}
 use Rattle.honest_server.specs.Moves.{plainly}
@@ -10,8 +10,11 @@ use Rattle.link_traits.specs.Link.{Told, stream, concatenation, first, others, t
 use Rattle.link_traits.specs.declared.link.Link.{Ghosts}
 use Rattle.my_session.proofs.Links.{replied}
 use Rattle.my_session.proofs.Payloads.{no_create}
-use Rattle.my_session.specs.Serving.{MakesNoObject, Replied}
+use Rattle.my_session.specs.Channel.{ChannelView, IsOfLink, IsUnsent, SendsNone, SendsPackets, Says, SaysNone}
+use Rattle.my_session.specs.Wire.{Wire}
+use Rattle.my_session.specs.Serving.{MakesNoObject, MaySay, Replied}
 use Rattle.my_session.specs.declared.fault.SessionFault.{SessionFault}
+use Rattle.my_session.specs.declared.fault.SessionFault.TheVariants.{Link, Refused, Garbled, NotProtocol10, PluginUnsupported, TooLong, StreamTooLong, OutOfMemory}
 
 all_joined : (lists : List (List ℕ)) → first lists ++ concatenation (others lists) ≡ concatenation lists
 all_joined [] = refl
@@ -58,13 +61,13 @@ pub short_makes_none : (id : ℕ) (payload bytes : List ℕ) → id < 256 → le
 short_makes_none id payload bytes byte short is none = makes_none id payload bytes (is ∙ sym (short_is_sent id payload byte short)) none
 
 -- such packets may be sent
-pub may_send : (state : State) (id : ℕ) (payload bytes : List ℕ) → bytes ≡ packets id payload → BeginsAt state.phase id → (state.phase ≡ in_session → state.terms.sole ≡ false → MakesNoObject payload) → MaySend state bytes
-may_send state id payload bytes is begins none = record {
-  whole = is_whole state.phase id payload bytes is begins;
-  no_create = λ phase sole. makes_none id payload bytes is (none phase sole);
+pub may_send : (state : State) (id : ℕ) (payload bytes : List ℕ) → bytes ≡ packets id payload → MaySay id payload state → MaySend state bytes
+may_send state id payload bytes is may = record {
+  whole = is_whole state.phase id payload bytes is may.begins;
+  no_create = λ phase sole. makes_none id payload bytes is (may.no_create phase sole);
 }
 
-pub may_send_short : (state : State) (id : ℕ) (payload bytes : List ℕ) → id < 256 → length payload ≤ 1001 → bytes ≡ packet id payload → BeginsAt state.phase id → (state.phase ≡ in_session → state.terms.sole ≡ false → MakesNoObject payload) → MaySend state bytes
+pub may_send_short : (state : State) (id : ℕ) (payload bytes : List ℕ) → id < 256 → length payload ≤ 1001 → bytes ≡ packet id payload → MaySay id payload state → MaySend state bytes
 may_send_short state id payload bytes byte short is = may_send state id payload bytes (is ∙ sym (short_is_sent id payload byte short))
 
 -- neither is COM_QUIT
@@ -77,6 +80,14 @@ quit_makes_none = short_makes_none 0 (1 ∷ []) (1 ∷ 0 ∷ 0 ∷ 0 ∷ 1 ∷ [
 pub may_quit : (state : State) → state.phase ≡ in_session → MaySend state (1 ∷ 0 ∷ 0 ∷ 0 ∷ 1 ∷ [])
 may_quit state is = record { whole = quit_is_whole state.phase is; no_create = λ phase sole. quit_makes_none }
 
+-- wires are the same where their parts are
+abbrev wire_by : List (List ℕ) → List ℕ → ℕ → ℕ → Wire
+wire_by sent stream place id = record { sent = sent; stream = stream; place = place; id = id }
+
+same_wire : (sent sent_now : List (List ℕ)) (stream stream_now : List ℕ) (place place_now id id_now : ℕ) → sent ≡ sent_now → stream ≡ stream_now → place ≡ place_now → id ≡ id_now → wire_by sent stream place id ≡ wire_by sent_now stream_now place_now id_now
+same_wire sent sent_now stream stream_now place place_now id id_now sent_is stream_is place_is id_is =
+    ap (λ (s : List (List ℕ)). wire_by s stream place id) sent_is ∙ ap (λ (l : List ℕ). wire_by sent_now l place id) stream_is ∙ ap (λ (n : ℕ). wire_by sent_now stream_now n id) place_is ∙ ap (λ (n : ℕ). wire_by sent_now stream_now place_now n) id_is
+
 -- what is answered to the packets of a payload is answered to it
 module _ {L : Type 0} (of : Ghosts L) (old new : L) (id next : ℕ) (payload bytes : List ℕ) where
   pub said : bytes ≡ packets id payload → next ≡ id_after (packet_count (length payload)) id → (of.honest old → (of.served old).failed ≡ false) → (of.honest old → IsExchanged plainly (of.served old) bytes (of.served new)) → of.honest old → Replied of payload old new next
@@ -84,8 +95,41 @@ module _ {L : Type 0} (of : Ghosts L) (old new : L) (id next : ℕ) (payload byt
       subst (λ (n : ℕ). Replied of payload old new n) (sym next_is)
       (replied of old new id payload (subst (λ (l : List ℕ). IsExchanged plainly (of.served old) l (of.served new)) bytes_are (told_after_send h)) (alive h))
 
-module _ {L : Type 0} (of : Ghosts L) (old new : L) (id now next : ℕ) (payload bytes : List ℕ) where
-  pub short_said : (result : Result (Unit {0}) SessionFault) → id < 256 → length payload ≤ 1001 → bytes ≡ packet id payload → next ≡ (id + 1) % 256 → OnOk result (now ≡ next) → OnOk result (of.honest old → (of.served old).failed ≡ false) → OnOk result (of.honest old → IsExchanged plainly (of.served old) bytes (of.served new))
-      → OnOk result (of.honest old → Replied of payload old new now)
-  short_said (Ok sent) byte short is next_is here alive told_after_send = said of old new id now payload bytes (is ∙ sym (short_is_sent id payload byte short)) (here ∙ next_is ∙ (omega arith)) alive told_after_send
-  short_said (Err fault) byte short is next_is here alive told_after_send = tt
+module _ {L : Type 0} (of : Ghosts L) (old new : ChannelView L) (id next : ℕ) (payload bytes : List ℕ) where
+  -- packets that were sent say their payload
+  pub says : length payload ≤ 67108864 → bytes ≡ packets id payload → new.place ≡ old.place → new.id ≡ id_after (packet_count (length payload)) id → SendsPackets of bytes old.link new.link → Says of id payload old new
+  says short bytes_are place_is id_is sends = record {
+    replied = said of old.link new.link id new.id payload bytes bytes_are id_is sends.alive sends.answered;
+    sent = λ t. record {
+      short = short;
+      new_is = same_wire _ _ _ _ _ _ _ _ (sends.sent t ∙ ap (λ (l : List ℕ). (of.told old.link).sent ++ l ∷ []) bytes_are) (sends.stream t) place_is id_is;
+    };
+  }
+
+  pub short_says : (result : Result (Unit {0}) SessionFault) → id < 256 → length payload ≤ 1001 → bytes ≡ packet id payload → next ≡ (id + 1) % 256 → new.place ≡ old.place → OnOk result (new.id ≡ next) → OnOk result (SendsPackets of bytes old.link new.link) → OnOk result (Says of id payload old new)
+  short_says (Ok sent) byte short is next_is place_is id_is sends = says (omega arith) (is ∙ sym (short_is_sent id payload byte short)) place_is (id_is ∙ next_is ∙ (omega arith)) sends
+  short_says (Err fault) byte short is next_is place_is id_is sends = tt
+
+module _ {L : Type 0} (of : Ghosts L) (old new : ChannelView L) (payload : List ℕ) where
+  -- what wasn't sent wasn't said
+  none_said : (fault : SessionFault) → SendsNone of IsUnsent old.link new.link fault → SaysNone of payload old new fault
+  none_said Link none = record { kind = tt; unsaid = none.silent }
+  none_said (Refused form refusal) none = absurd none.kind
+  none_said (Garbled place) none = absurd none.kind
+  none_said (NotProtocol10 version) none = absurd none.kind
+  none_said (PluginUnsupported name) none = absurd none.kind
+  none_said (TooLong size) none = absurd none.kind
+  none_said StreamTooLong none = absurd none.kind
+  none_said OutOfMemory none = record { kind = tt; unsaid = none.silent }
+
+  pub long_says_none : (result : Result (Unit {0}) SessionFault) → IfErr result (SendsNone of IsUnsent old.link new.link) → IfErr result (SaysNone of payload old new)
+  long_says_none (Ok done) none = tt
+  long_says_none (Err fault) none = none_said fault none
+
+  pub short_says_none : (result : Result (Unit {0}) SessionFault) → IfErr result (SendsNone of IsOfLink old.link new.link) → IfErr result (SaysNone of payload old new)
+  short_says_none (Ok done) none = tt
+  short_says_none (Err fault) none = subst (λ (f : SessionFault). SaysNone of payload old new f) (sym none.kind) (none_said Link (record { kind = tt; silent = none.silent }))
+
+  pub short_takes_none : (result : Result (Unit {0}) SessionFault) → IfErr result (SendsNone of IsOfLink old.link new.link) → result ≡ Err OutOfMemory → ⊥
+  short_takes_none (Ok done) none is = absurd (cc)
+  short_takes_none (Err fault) none is = let kind : fault ≡ Link = none.kind in absurd (cc)

@@ -18,9 +18,9 @@ use Rattle.my_session.proofs.Links.{taken_off, recv_gives}
 use Rattle.my_session.proofs.Payloads.{part_is_not_all}
 use Rattle.my_session.proofs.Staying.{stays_begin, stays_on}
 use Rattle.my_session.proofs.Within.{wrong_within, full_within}
-use Rattle.my_session.specs.Channel.{wire_at, packets_within, Skimmed as Skimming}
+use Rattle.my_session.specs.Channel.{link_at, wire_at, packets_within, HearsNone, IsOfChannel, SkimsTo, Skimmed as Skimming}
 use Rattle.my_session.specs.Halt.{Misheard}
-use Rattle.my_session.specs.Receiving.{SkimsPiece, Spoils, Drains, Unskimmed}
+use Rattle.my_session.specs.Receiving.{SkimsPiece, Spoils, Drains, Unskimmed, skimmer_at}
 use Rattle.my_session.specs.Serving.{IsServing, MessageWaits, Stays, Gives, DeliversFront}
 use Rattle.my_session.specs.Wire.{within}
 use Rattle.my_session.specs.declared.fault.SessionFault.{SessionFault}
@@ -40,7 +40,7 @@ counted_by size count bytes count_is bytes_is = omega arith
 module _ {L : Type 0} (of : Ghosts L) where
   pub skims_piece : (old new : L) (E : Type 0) (before now : Skimmed) (done : Unit {0}) (taken count : ℕ) (buffer rest : List ℕ) → (of.tells old → Receives {E = E} (of.told old) buffer (Ok count) (of.told new)) → (of.honest old → TakesServed {E = E} (of.served old) buffer (Ok count) (of.served new))
       → Feeds before (take count (buffer ++ rest)) (Ok done) now → 0 < count → count ≤ length buffer
-      → SkimsPiece of old new before now taken (taken + count)
+      → SkimsPiece of (skimmer_at old before taken) (skimmer_at new now (taken + count))
   skims_piece old new E before now done taken count buffer rest received served feeds some fits =
       let is : take count (buffer ++ rest) ≡ take count buffer = take-append-le count buffer rest fits in
       let size : length (take count buffer) ≡ count = length-take-le count buffer fits in
@@ -56,7 +56,7 @@ module _ {L : Type 0} (of : Ghosts L) where
       }
 
   pub spoils_piece : (old new : L) (E : Type 0) (before now : Skimmed) (fault : FrameFault) (taken count : ℕ) (buffer rest : List ℕ) → (of.tells old → Receives {E = E} (of.told old) buffer (Ok count) (of.told new)) → Feeds before (take count (buffer ++ rest)) (Err fault) now → count ≤ length buffer → taken + count ≤ 2 ^ 62
-      → Spoils of old new before taken fault
+      → Spoils of (skimmer_at old before taken) new fault
   spoils_piece old new E before now fault taken count buffer rest received feeds fits inside =
       let is : take count (buffer ++ rest) ≡ take count buffer = take-append-le count buffer rest fits in
       let size : length (take count buffer) ≡ count = length-take-le count buffer fits in
@@ -68,7 +68,7 @@ module _ {L : Type 0} (of : Ghosts L) where
         stream = λ t. taken_off of old new E count buffer received t ∙ ap (λ (l : List ℕ). l ++ stream (of.told new)) (sym is);
       }
 
-  pub drains_none : ((one : L) → of.same_origin one one) → (link : L) (seq taken : ℕ) (skim : Skimmed) → Skims seq 67108864 [] skim → fault_of skim ≡ None → Drains of link link seq skim taken taken
+  pub drains_none : ((one : L) → of.same_origin one one) → (link : L) (seq taken : ℕ) (skim : Skimmed) → Skims seq 67108864 [] skim → fault_of skim ≡ None → Drains of (link_at link taken seq) (skimmer_at link skim taken)
   drains_none begins link seq taken skim skims right = record {
     tells = (λ t. t, λ t. t);
     later = omega arith;
@@ -82,8 +82,8 @@ module _ {L : Type 0} (of : Ghosts L) where
     gives = λ serving. record { alive = serving.alive; state = refl; waits = refl };
   }
 
-  module _ (start link : L) (seq taken_first taken : ℕ) (skim : Skimmed) (drains : Drains of start link seq skim taken_first taken) where
-    pub drains_more : ((one next last : L) → of.same_origin one next → of.same_origin next last → of.same_origin one last) → (next : L) (now : Skimmed) (taken_now : ℕ) → (of.tells link ↔ of.tells next) → of.faults link ≤ of.faults next → (of.tells link → (of.told next).sent ≡ (of.told link).sent) → Stays of link next → SkimsPiece of link next skim now taken taken_now → Drains of start next seq now taken_first taken_now
+  module _ (start link : L) (seq taken_first taken : ℕ) (skim : Skimmed) (drains : Drains of (link_at start taken_first seq) (skimmer_at link skim taken)) where
+    pub drains_more : ((one next last : L) → of.same_origin one next → of.same_origin next last → of.same_origin one last) → (next : L) (now : Skimmed) (taken_now : ℕ) → (of.tells link ↔ of.tells next) → of.faults link ≤ of.faults next → (of.tells link → (of.told next).sent ≡ (of.told link).sent) → Stays of link next → SkimsPiece of (skimmer_at link skim taken) (skimmer_at next now taken_now) → Drains of (link_at start taken_first seq) (skimmer_at next now taken_now)
     drains_more joins next now taken_now tells later sent stays step =
         let all = length-append drains.fed step.piece in
         let before = drains.taken in
@@ -132,7 +132,7 @@ module _ {L : Type 0} (of : Ghosts L) where
         pub drained_size : 4 ≤ taken - taken_first
         drained_size = let size = fed_size in let all = drains.taken in omega arith
 
-        pub drained_hears : of.tells start → Skimming skim (wire_at of start taken_first seq) (wire_at of link taken (id_after (packets_within (taken - taken_first)) seq))
+        pub drained_hears : of.tells start → Skimming skim (wire_at of (link_at start taken_first seq)) (wire_at of (link_at link taken (id_after (packets_within (taken - taken_first)) seq)))
         drained_hears t =
             let size = fed_size in
             let all = drains.taken in
@@ -165,7 +165,10 @@ module _ {L : Type 0} (of : Ghosts L) where
               skims = subst (λ (l : List ℕ). Skims seq 67108864 l skim) fed_is drains.skims;
             }
 
-      spoilt_here : (next : L) (fault : FrameFault) → Spoils of link next skim taken fault → of.tells start → IsWrong 67108864 seq (within (wire_at of start taken_first seq)) fault
+        pub drained_to : SkimsTo of skim (link_at start taken_first seq) link taken
+        drained_to = record { delivers = drained_delivers; heard = drained_hears }
+
+      spoilt_here : (next : L) (fault : FrameFault) → Spoils of (skimmer_at link skim taken) next fault → of.tells start → IsWrong 67108864 seq (within (wire_at of (link_at start taken_first seq))) fault
       spoilt_here next fault spoils t =
           let all = length-append drains.fed spoils.piece in
           let before = drains.taken in
@@ -174,8 +177,8 @@ module _ {L : Type 0} (of : Ghosts L) where
           (append_assoc drains.fed spoils.piece (stream (of.told next)) ∙ ap (λ (l : List ℕ). drains.fed ++ l) (sym (spoils.stream (drains.tells.0 t))) ∙ drains.stream t)
           (spoils.wrong seq 67108864 drains.fed drains.skims)
 
-      pub drained_not : (next : L) (fault : SessionFault) (wants taken_now id : ℕ) → 0 < wants → Wants 67108864 seq drains.fed wants → (of.tells link → (of.told next).sent ≡ (of.told link).sent) → Unskimmed of link next skim taken taken_first fault
-          → of.tells start → Misheard (wire_at of start taken_first seq) fault (wire_at of next taken_now id)
+      pub drained_not : (next : L) (fault : SessionFault) (wants taken_now id : ℕ) → 0 < wants → Wants 67108864 seq drains.fed wants → (of.tells link → (of.told next).sent ≡ (of.told link).sent) → Unskimmed of (skimmer_at link skim taken) next taken_first fault
+          → of.tells start → Misheard (wire_at of (link_at start taken_first seq)) fault (wire_at of (link_at next taken_now id))
       drained_not next Link wants taken_now id some wanted sent why t = sent (drains.tells.0 t) ∙ drains.sent t
       drained_not next (Refused form refusal) wants taken_now id some wanted sent why t = absurd why
       drained_not next (Garbled place) wants taken_now id some wanted sent why t = record {
@@ -198,3 +201,17 @@ module _ {L : Type 0} (of : Ghosts L) where
             sent (drains.tells.0 t) ∙ drains.sent t,
           )
       drained_not next OutOfMemory wants taken_now id some wanted sent why t = absurd why
+
+      unskimmed_kind : (next : L) (fault : SessionFault) → Unskimmed of (skimmer_at link skim taken) next taken_first fault → IsOfChannel fault
+      unskimmed_kind next Link why = tt
+      unskimmed_kind next (Refused form refusal) why = absurd why
+      unskimmed_kind next (Garbled place) why = tt
+      unskimmed_kind next (NotProtocol10 version) why = absurd why
+      unskimmed_kind next (PluginUnsupported name) why = absurd why
+      unskimmed_kind next (TooLong size) why = tt
+      unskimmed_kind next StreamTooLong why = tt
+      unskimmed_kind next OutOfMemory why = absurd why
+
+      pub drained_none : (next : L) (fault : SessionFault) (wants taken_now id : ℕ) → 0 < wants → Wants 67108864 seq drains.fed wants → (of.tells link → (of.told next).sent ≡ (of.told link).sent) → Unskimmed of (skimmer_at link skim taken) next taken_first fault
+          → HearsNone of (link_at start taken_first seq) (link_at next taken_now id) fault
+      drained_none next fault wants taken_now id some wanted sent why = record { kind = unskimmed_kind next fault why; misheard = drained_not next fault wants taken_now id some wanted sent why }

@@ -1,7 +1,10 @@
 -- A link stays the same, whatever is done on it.
-use Rattle.std.proofs.Common.{refl, ◌∙◌}
+use Rattle.std.proofs.Common.{◌≡◌, ◌≤◌, ◌↔◌, refl, ◌∙◌, ap, arith, Ok, Err}
+use Rattle.link_traits.specs.Cause.{Rose}
 use Rattle.link_traits.specs.declared.link.Link.{Ghosts}
-use Rattle.my_session.specs.Serving.{Stays}
+use Rattle.my_session.specs.Serving.{Keeps, Stays}
+use Rattle.my_session.specs.declared.fault.SessionFault.{SessionFault}
+use Rattle.my_session.specs.declared.fault.SessionFault.TheVariants.{Link}
 
 module _ {L : Type 0} (of : Ghosts L) where
   pub stays_begin : ((link : L) → of.same_origin link link) → (link : L) → Stays of link link
@@ -19,3 +22,18 @@ module _ {L : Type 0} (of : Ghosts L) where
     terms = λ h. later.terms (first.honest.0 h) ∙ first.terms h;
     back = λ h alive. first.back h (later.back (first.honest.0 h) alive);
   }
+
+  pub keeps_ok : {A : Type 0} (answer : A) (old new : L) → Stays of old new → (of.tells old ↔ of.tells new) → of.faults old ≤ of.faults new → Keeps of old new (Ok answer)
+  keeps_ok answer old new stays tells later = record { stays = stays; tells = tells; counted = record { later = later; failed = λ is. absurd (cc) } }
+
+  pub keeps_err : {A : Type 0} (fault : SessionFault) (old new : L) → Stays of old new → (of.tells old ↔ of.tells new) → of.faults old ≤ of.faults new → (fault ≡ Link → Rose (of.faults old) (of.faults new)) → Keeps of {A = A} old new (Err fault)
+  keeps_err fault old new stays tells later rose = record { stays = stays; tells = tells; counted = record { later = later; failed = λ is. rose (cc) } }
+
+  -- what a call of a part keeps, the whole keeps with what was done before
+  pub keeps_err_on : {A B : Type 0} → ((one next last : L) → of.same_origin one next → of.same_origin next last → of.same_origin one last) → (fault : SessionFault) (start link next : L) → Stays of start link → (of.tells start ↔ of.tells link) → of.faults start ≤ of.faults link → Keeps of {A = A} link next (Err fault) → Keeps of {A = B} start next (Err fault)
+  keeps_err_on joins fault start link next stays tells later keeps =
+      let after = keeps.counted.later in
+      keeps_err fault start next (stays_on joins start link next stays keeps.stays)
+      (λ t. keeps.tells.0 (tells.0 t), λ t. tells.1 (keeps.tells.1 t))
+      (omega arith)
+      (λ is. let rose = keeps.counted.failed (ap (λ (f : SessionFault). Err f) is) in (omega arith))

@@ -4,7 +4,7 @@ use Rattle.std.specs.Prelude.{option_and_then}
 use Rattle.grammar.specs.Language.{Then, Fixed}
 use Rattle.honest_server.specs.Exchange.{query_payload}
 use Rattle.object_texts.proofs.HeadPlaces.{no-head}
-use Rattle.object_texts.proofs.Tokens.{tokens-cons}
+use Rattle.sql_tokens.proofs.Tokens.{tokens-cons}
 use Rattle.object_forms.specs.Head.{HasHead, head_in, kind_in, making_after}
 use Rattle.object_forms.specs.Token.{Token, first_token, is_word}
 use Rattle.statement_forms.specs.Form.{command_form}

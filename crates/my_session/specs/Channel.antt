@@ -1,11 +1,15 @@
 -- A link, what is sent on it, and the message that was heard last on it.
-use Rattle.std.specs.Prelude.{ℕ, ◌+◌, ◌-◌, ◌/◌, Bool, List}
+use Rattle.std.specs.Prelude.{ℕ, ◌≡◌, ◌+◌, ◌-◌, ◌/◌, Bool, false, List, [], ◌∷◌, ◌++◌}
+use Rattle.honest_server.specs.Link.{IsExchanged}
+use Rattle.honest_server.specs.Moves.{plainly}
 use Rattle.link_traits.specs.Link.{stream}
 use Rattle.link_traits.specs.declared.link.Link.{Ghosts}
-use Rattle.wire_forms.specs.Packet.{packets}
+use Rattle.wire_forms.specs.Packet.{packets, id_after}
 use Rattle.my_packets.specs.Skimmed.{Skimmed as SkimmedView}
 use Rattle.my_packets.specs.Skims.{Skims}
-use Rattle.my_session.specs.Wire.{Wire, Hears}
+use Rattle.my_session.specs.Halt.{Misheard, Unsaid}
+use Rattle.my_session.specs.Serving.{IsServing, Delivers, DeliversFront, Replied}
+use Rattle.my_session.specs.Wire.{Wire, Hears, IsOnward, Sent}
 use Rattle.my_session.specs.declared.fault.SessionFault.{SessionFault}
 use Rattle.my_session.specs.declared.fault.SessionFault.TheVariants.{Link, Refused, NotProtocol10, PluginUnsupported, OutOfMemory}
 
@@ -18,18 +22,32 @@ pub record ChannelView (L : Type 0) : Type 0 where
   pub message : List ℕ
   pub began : ℕ
 
--- what goes over a link on which so many bytes were heard
-abbrev pub wire_at : {L : Type 0} → Ghosts L → L → ℕ → ℕ → Wire
-wire_at of link place id = record {
-  sent = (of.told link).sent;
-  stream = stream (of.told link);
-  place = place;
-  id = id;
+-- a link, how many bytes were taken off it, and the sequence id of the next packet
+pub record LinkAt (L : Type 0) : Type 0 where
+  pub link : L
+  pub place : ℕ
+  pub id : ℕ
+
+-- the link, where so many bytes were taken off it and the next packet has this id
+abbrev pub link_at : {L : Type 0} → L → ℕ → ℕ → LinkAt L
+link_at link place id = record { link = link; place = place; id = id }
+
+-- where a channel's link is
+abbrev pub link_of : {L : Type 0} → ChannelView L → LinkAt L
+link_of channel = link_at channel.link channel.place channel.id
+
+-- what goes over a link
+abbrev pub wire_at : {L : Type 0} → Ghosts L → LinkAt L → Wire
+wire_at of here = record {
+  sent = (of.told here.link).sent;
+  stream = stream (of.told here.link);
+  place = here.place;
+  id = here.id;
 }
 
 -- what goes over a channel
 abbrev pub channel_wire : {L : Type 0} → Ghosts L → ChannelView L → Wire
-channel_wire of channel = wire_at of channel.link channel.place channel.id
+channel_wire of channel = wire_at of (link_of channel)
 
 -- a message was heard, of which a skim kept the front
 pub record Skimmed (skim : SkimmedView) (old new : Wire) : Type 0 where
@@ -44,6 +62,10 @@ IsOfChannel (NotProtocol10 version) = ⊥
 IsOfChannel (PluginUnsupported name) = ⊥
 IsOfChannel fault = Unit {0}
 
+-- the link's own failure
+abbrev pub IsOfLink : SessionFault → Type 0
+IsOfLink fault = fault ≡ Link
+
 -- a fault at which a payload that isn't too long wasn't sent
 abbrev pub IsUnsent : SessionFault → Type 0
 IsUnsent Link = Unit {0}
@@ -53,3 +75,47 @@ IsUnsent fault = ⊥
 -- how many packets are so many bytes, where a message has no others: each but the last has 16,777,219
 abbrev pub packets_within : ℕ → ℕ
 packets_within bytes = (bytes - 4) / 16777219 + 1
+
+module _ {L : Type 0} (of : Ghosts L) where
+  -- packets were sent as one message: an honest server has answered them, and what is still to be heard is the same
+  pub record SendsPackets (packets : List ℕ) (old new : L) : Type 0 where
+    pub alive : of.honest old → (of.served old).failed ≡ false
+    pub answered : of.honest old → IsExchanged plainly (of.served old) packets (of.served new)
+    pub sent : of.tells old → (of.told new).sent ≡ (of.told old).sent ++ packets ∷ []
+    pub stream : of.tells old → stream (of.told new) ≡ stream (of.told old)
+
+  -- nothing was sent, for one of these reasons
+  pub record SendsNone (IsReason : SessionFault → Type 0) (old new : L) (fault : SessionFault) : Type 0 where
+    pub kind : IsReason fault
+    pub silent : of.tells old → (of.told new).sent ≡ (of.told old).sent
+
+  -- a payload was sent in packets from this id on, and an honest server's reply waits
+  pub record Says (id : ℕ) (payload : List ℕ) (old new : ChannelView L) : Type 0 where
+    pub replied : of.honest old.link → Replied of payload old.link new.link new.id
+    pub sent : of.tells old.link → Sent id payload (channel_wire of old) (channel_wire of new)
+
+  -- why a payload wasn't sent, and that nothing of it was
+  pub record SaysNone (payload : List ℕ) (old new : ChannelView L) (fault : SessionFault) : Type 0 where
+    pub kind : IsOfChannel fault
+    pub unsaid : of.tells old.link → Unsaid payload (channel_wire of old) fault (channel_wire of new)
+
+  -- the next message was taken off a link, and nothing else
+  pub record HearsNext (message : List ℕ) (old new : LinkAt L) : Type 0 where
+    pub alive : of.honest old.link → (of.served old.link).failed ≡ false
+    pub delivers : IsServing of old.link → Delivers of message old.link old.id new.link new.id
+    pub onward : IsOnward old.place new.place
+    pub heard : of.tells old.link → Hears message (wire_at of old) (wire_at of new)
+
+  -- the next message was taken off a link, of which a skim kept the front
+  pub record SkimsNext (skim : SkimmedView) (old new : LinkAt L) : Type 0 where
+    pub delivers : IsServing of old.link → DeliversFront of skim old.link old.id new.link new.id
+    pub heard : of.tells old.link → Skimmed skim (wire_at of old) (wire_at of new)
+
+  -- the next message was taken off a link up to this place, and the next packet has the id after its packets
+  abbrev pub SkimsTo : SkimmedView → LinkAt L → L → ℕ → Type 0
+  SkimsTo skim old link place = SkimsNext skim old (link_at link place (id_after (packets_within (place - old.place)) old.id))
+
+  -- why the next message wasn't heard
+  pub record HearsNone (old new : LinkAt L) (fault : SessionFault) : Type 0 where
+    pub kind : IsOfChannel fault
+    pub misheard : of.tells old.link → Misheard (wire_at of old) fault (wire_at of new)

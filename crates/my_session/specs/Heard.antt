@@ -12,8 +12,9 @@ use Rattle.wire_forms.specs.declared.reply.Reply.TheVariants.{Done, Refused, Col
 use Rattle.wire_forms.specs.Row.{Cell, cells_of}
 use Rattle.statement_forms.specs.declared.form.Form.{Form}
 use Rattle.my_session.specs.Awaited.{decision, fault_at, further_fault}
-use Rattle.my_session.specs.Login.{IsGreeted}
-use Rattle.my_session.specs.Wire.{Wire, Step, hears, Hears}
+use Rattle.my_session.specs.Login.{IsGreeted, IsAccepted, LoginAwaits, LoginSends}
+use Rattle.my_session.specs.Wire.{Wire, Step, hears, Hears, Takes}
+use Rattle.my_session.specs.Halt.{Stops}
 use Rattle.my_session.specs.declared.peer.Peer.{Peer}
 use Rattle.my_session.specs.declared.fault.SessionFault.{SessionFault}
 use Rattle.my_session.specs.declared.login.Decision.{Decision}
@@ -38,6 +39,11 @@ HasColumns None = Unit {0}
 HasColumns (Some Done) = Unit {0}
 HasColumns (Some (Refused refusal)) = Unit {0}
 HasColumns (Some (Columns columns)) = (0 < columns) × (columns < 65536)
+
+-- a reader was given a reply's first message
+pub record ReadsReply (old : Reading) (reply : Option Reply) (new : Reading) : Type 0 where
+  pub columns : HasColumns reply
+  pub reader : new ≡ reading_of old.ends reply
 
 -- a greeting was heard
 pub record HearsGreeting (found : Greeting) (old new : Wire) : Type 0 where
@@ -64,6 +70,26 @@ pub record IsAskedToSwitch (user password : List ℕ) (peer : Peer) (found : Swi
   pub goes_on : fault_at decision 0 message ≡ None
   pub read : switch_of message ≡ Ok found
   pub steps_are : steps ≡ before ++ hears message ∷ []
+
+-- a login stops
+abbrev pub LoginStops : List ℕ → List ℕ → Wire → SessionFault → Wire → Type 0
+LoginStops user password old fault new = Stops (LoginAwaits user password) (LoginSends user password) old fault new
+
+-- a login that was asked to switch is accepted
+abbrev pub AcceptsSwitched : List ℕ → Switch → Wire → Wire → Type 0
+AcceptsSwitched password found old new = (start : Wire) (user : List ℕ) (peer : Peer) → Takes (IsAskedToSwitch user password peer found) start old → Takes (IsAccepted user password peer) start new
+
+-- a login that was asked to switch stops
+abbrev pub StopsSwitched : List ℕ → Switch → Wire → SessionFault → Wire → Type 0
+StopsSwitched password found old fault new = (start : Wire) (user : List ℕ) (peer : Peer) → Takes (IsAskedToSwitch user password peer found) start old → LoginStops user password start fault new
+
+-- a login that has answered the greeting is accepted
+abbrev pub AcceptsGreeted : List ℕ → Wire → Wire → Type 0
+AcceptsGreeted password old new = (start : Wire) (user : List ℕ) (peer : Peer) → Takes (IsGreeted user password peer) start old → Takes (IsAccepted user password peer) start new
+
+-- a login that has answered the greeting stops
+abbrev pub StopsGreeted : List ℕ → Wire → SessionFault → Wire → Type 0
+StopsGreeted password old fault new = (start : Wire) (user : List ℕ) (peer : Peer) → Takes (IsGreeted user password peer) start old → LoginStops user password start fault new
 
 -- one of the messages before the rows was heard: a column definition, or the EOF after the definitions
 pub record HearsDefinition (reading : Reading) (old new : Wire) : Type 0 where

@@ -17,7 +17,12 @@ use Rattle.wire_forms.specs.declared.refusal.Refusal.{Refusal}
 use Rattle.statement_forms.specs.Text.{command_text}
 use Rattle.statement_forms.specs.declared.command.Command.{Command}
 use Rattle.my_session.specs.Peer.{IsPeerOf}
-use Rattle.my_session.specs.Session.{SessionView}
+use Rattle.my_session.specs.Channel.{ChannelView}
+use Rattle.my_session.specs.Serving.{IsServing, MessageWaits, DeliversReply, DeliversRefusal}
+use Rattle.my_session.specs.Session.{SessionView, IsOfStatement, ends_session, rows_of}
+use Rattle.my_session.specs.Wire.{IsOnward}
+use Rattle.statement_forms.specs.Statement.{CommandHasText}
+use Rattle.my_session.specs.declared.fault.SessionFault.{SessionFault}
 use Rattle.my_session.specs.declared.login.Decision.{Decision}
 use Rattle.my_session.specs.declared.login.Decision.TheVariants.{Accepted, Switched}
 
@@ -52,6 +57,26 @@ pub record IsReply (ending : Ends) (messages : List (List ℕ)) : Type 0 where
 abbrev pub phase_after : Decision → Phase
 phase_after Accepted = in_session
 phase_after (Switched found) = switching
+
+-- the command makes no object
+abbrev pub MakesNothing : Command → Type 0
+MakesNothing command = HasHead (command_text command) → ⊥
+
+-- a column definition, or the EOF after the definitions, is awaited
+pub record AwaitsDefinition (reading : Reading) : Type 0 where
+  pub pending : 0 < reading.columns
+  pub awaited : 0 < reading.awaited
+
+-- a row is awaited, or the end, where result sets end so
+pub record AwaitsRow (ends : Ends) (reading : Reading) : Type 0 where
+  pub pending : 0 < reading.columns
+  pub rows : reading.awaited ≡ 0
+  pub ends_are : reading.ends ≡ ends
+
+-- the message that was heard last began where the channel was, and more bytes were heard
+pub record IsHeardNext {L : Type 0} (old new : ChannelView L) : Type 0 where
+  pub began : new.began ≡ old.place
+  pub onward : IsOnward old.place new.place
 
 module _ {L : Type 0} (of : Ghosts L) where
   -- a link in this phase, on which nothing waits
@@ -96,6 +121,64 @@ module _ {L : Type 0} (of : Ghosts L) where
     pub greets : IsGreeting (of.served link).state.terms.server greeting
     pub waits : (of.served link).waiting ≡ packets 0 greeting
 
--- the command makes no object
-abbrev pub MakesNothing : Command → Type 0
-MakesNothing command = HasHead (command_text command) → ⊥
+  -- nothing was heard on the channel, and the greeting is
+  pub record AwaitsGreeting (channel : ChannelView L) : Type 0 where
+    pub alive : channel.has_failed ≡ false
+    pub first : channel.id ≡ 0
+    pub greeting : IsServing of channel.link → GreetingWaits channel.link
+
+  -- an honest server's message was taken off the channel that is this reply's first, or spells none
+  abbrev pub ServesReply : Option Reply → ChannelView L → ChannelView L → Type 0
+  ServesReply reply old new = IsServing of old.link → DeliversReply of reply old.link old.id new.link new.id
+
+  -- an honest server's ERR was
+  abbrev pub ServesRefusal : ChannelView L → ChannelView L → Type 0
+  ServesRefusal old new = IsServing of old.link → DeliversRefusal of old.link old.id new.link new.id
+
+  -- a message can be heard on the channel
+  pub record AwaitsMessage (channel : ChannelView L) : Type 0 where
+    pub alive : channel.has_failed ≡ false
+    pub waits : IsServing of channel.link → MessageWaits channel.id (of.served channel.link).waiting
+
+  -- the channel is in this phase, and nothing waits on it
+  pub record IsAtRest (phase : Phase) (channel : ChannelView L) : Type 0 where
+    pub alive : channel.has_failed ≡ false
+    pub quiet : of.honest channel.link → IsQuiet phase channel.link
+
+  -- a statement was sent on the channel, and its reply can be heard
+  pub record AwaitsReply (channel : ChannelView L) : Type 0 where
+    pub alive : channel.has_failed ≡ false
+    pub waits : of.honest channel.link → ReplyWaits channel.link channel.id
+
+  -- the rest of a result set can be heard on the channel by a reader that is here
+  pub record AwaitsRest (channel : ChannelView L) (reading : Reading) : Type 0 where
+    pub alive : channel.has_failed ≡ false
+    pub rest : of.honest channel.link → IsOpen channel.link channel.id reading
+
+  -- the server follows the end of result sets that the reader does
+  pub record FollowsEnds (ends : Ends) (reading : Reading) (link : L) : Type 0 where
+    pub reader : reading.ends ≡ ends
+    pub server : of.honest link → ends ≡ (of.served link).state.terms.server.ends
+
+  -- the number of columns was heard, from 1 to 65,535, and the messages before the rows come next
+  pub record HasCounted (ends : Ends) (columns : ℕ) (channel : ChannelView L) (reading : Reading) : Type 0 where
+    pub some : 0 < columns
+    pub few : columns < 65536
+    pub reader : reading ≡ columns_counted ends columns
+    pub rest : AwaitsRest channel (columns_counted ends columns)
+
+  -- the messages before the rows were heard, and the rows come next
+  pub record HasOpened (ends : Ends) (columns : ℕ) (channel : ChannelView L) (reading : Reading) : Type 0 where
+    pub some : 0 < columns
+    pub reader : reading ≡ rows_of ends columns
+    pub rest : AwaitsRest channel (rows_of ends columns)
+
+  -- a statement failed: where the fault is an ERR, the session is open after it and nothing waits
+  pub record FailsStatement (fault : SessionFault) (channel : ChannelView L) : Type 0 where
+    pub kind : IsOfStatement fault
+    pub rest : ends_session fault ≡ false → IsAtRest in_session channel
+
+  -- the command may be run over the link: it has a text, and makes no object unless the server is the link's alone
+  pub record MayRun (command : Command) (link : L) : Type 0 where
+    pub text : CommandHasText command
+    pub no_create : of.honest link → (of.served link).state.terms.sole ≡ false → MakesNothing command

@@ -3,7 +3,7 @@ use Rattle.std.specs.Prelude.{ℕ, ◌≡◌, List}
 use Rattle.my_packets.specs.Front.{IsTooLong}
 use Rattle.my_session.specs.Halt.{OutOfOrder, IsFull}
 use Rattle.my_session.specs.Wire.{Wire, Hears, within}
-use Rattle.my_session.specs.declared.limits.TheConstants.{MESSAGE_LIMIT}
+use Rattle.my_session.specs.declared.limits.TheConstants.{MESSAGE_LIMIT, SESSION_LIMIT, SHORT_PAYLOAD, PIECE}
 
 -- of a message, a packet out of order, one past the limit, and 2^62 bytes before its end, no two come next; the message and the length are one each
 pub record HasOneNext (wire : Wire) : Type 0 where
@@ -19,3 +19,10 @@ pub record HasOneNext (wire : Wire) : Type 0 where
 -- what comes next on a wire is one thing
 abbrev pub WhatComesNextIsOneThing : Type 0
 WhatComesNextIsOneThing = (wire : Wire) → HasOneNext wire
+
+-- the limits of a session, written out: messages of 64 MiB, 2^62 bytes in all, COM_QUERY with 1,000 bytes of text, 1 KiB at once
+pub record LimitsAreThese : Type 0 where
+  pub message : MESSAGE_LIMIT ≡ 67108864
+  pub session : SESSION_LIMIT ≡ 4611686018427387904
+  pub short_payload : SHORT_PAYLOAD ≡ 1001
+  pub piece : PIECE ≡ 1024

@@ -1,7 +1,4 @@
 pub mod Wire
-pub mod Serving
-pub mod Channel
-pub mod Receiving
 pub mod Awaited
 pub mod Halt
 pub mod Statements
@@ -10,5 +7,8 @@ pub mod Login
 pub mod Heard
 pub mod Lead
 pub mod Session
+pub mod Serving
+pub mod Channel
+pub mod Receiving
 pub mod InStep
 pub mod Laws

@@ -1,7 +1,8 @@
 -- What is heard and sent on a link whose server is honest.
-use Rattle.std.specs.Prelude.{ℕ, ◌≡◌, ◌↔◌, false, List, ◌++◌, length, Option, Some}
-use Rattle.honest_server.specs.Exchange.{Replies, packets_from, query_payload}
+use Rattle.std.specs.Prelude.{ℕ, ◌≡◌, ◌↔◌, false, List, ◌++◌, length, Option, Some, Result}
+use Rattle.honest_server.specs.Exchange.{Replies, BeginsAt, packets_from, query_payload}
 use Rattle.honest_server.specs.Moves.{plainly}
+use Rattle.honest_server.specs.State.{State, in_session}
 use Rattle.link_traits.specs.declared.link.Link.{Ghosts}
 use Rattle.wire_forms.specs.Packet.{packets, packet_count, id_after}
 use Rattle.my_packets.specs.Skimmed.{Skimmed as SkimmedView}
@@ -11,6 +12,8 @@ use Rattle.wire_forms.specs.Reply.{reply_of}
 use Rattle.wire_forms.specs.declared.refusal.Refusal.{Refusal}
 use Rattle.wire_forms.specs.declared.reply.Reply.{Reply}
 use Rattle.wire_forms.specs.declared.reply.Reply.TheVariants.{Refused}
+use Rattle.my_session.specs.Session.{IsCounted}
+use Rattle.my_session.specs.declared.fault.SessionFault.{SessionFault}
 
 -- a whole message waits, whose packets begin with this id
 pub record MessageWaits (id : ℕ) (waiting : List ℕ) : Type 0 where
@@ -21,6 +24,11 @@ pub record MessageWaits (id : ℕ) (waiting : List ℕ) : Type 0 where
 -- the payload isn't that of an object's text
 abbrev pub MakesNoObject : List ℕ → Type 0
 MakesNoObject payload = (text : List ℕ) → payload ≡ query_payload text → HasHead text → ⊥
+
+-- a payload may be sent in packets from this id on: the server awaits that id, and in a session that isn't sole it is no object's text
+pub record MaySay (id : ℕ) (payload : List ℕ) (state : State) : Type 0 where
+  pub begins : BeginsAt state.phase id
+  pub no_create : state.phase ≡ in_session → state.terms.sole ≡ false → MakesNoObject payload
 
 module _ {L : Type 0} (of : Ghosts L) where
   -- the server is honest, and the link hasn't failed
@@ -34,6 +42,12 @@ module _ {L : Type 0} (of : Ghosts L) where
     pub origin : of.same_origin old new
     pub terms : of.honest old → (of.served new).state.terms ≡ (of.served old).state.terms
     pub back : of.honest old → (of.served new).failed ≡ false → (of.served old).failed ≡ false
+
+  -- what every call keeps of its link, whatever it answers
+  pub record Keeps {A : Type 0} (old new : L) (result : Result A SessionFault) : Type 0 where
+    pub stays : Stays old new
+    pub tells : of.tells old ↔ of.tells new
+    pub counted : IsCounted (of.faults old) (of.faults new) result
 
   -- these bytes were taken off what waits, and nothing else has changed
   pub record Gives (bytes : List ℕ) (old new : L) : Type 0 where

@@ -1,5 +1,5 @@
 -- A session as a caller sees it, and what its calls do.
-use Rattle.std.specs.Prelude.{ℕ, ◌≡◌, ◌≤◌, ◌↔◌, ◌⊎◌, Bool, true, false, List, [], ◌∷◌, ◌++◌, Option, Some, None, Result, Ok, Err}
+use Rattle.std.specs.Prelude.{ℕ, ◌≡◌, ◌<◌, ◌≤◌, ◌↔◌, ◌⊎◌, Bool, true, false, List, [], ◌∷◌, ◌++◌, Option, Some, None, Result, Ok, Err, IfErr, length}
 use Rattle.link_traits.specs.Cause.{Rose}
 use Rattle.link_traits.specs.Link.{stream}
 use Rattle.link_traits.specs.declared.link.Link.{Ghosts}
@@ -7,18 +7,21 @@ use Rattle.wire_forms.specs.Reading.{Reading, row, end, idle, further_of}
 use Rattle.wire_forms.specs.declared.ends.Ends.{Ends}
 use Rattle.result_rows.specs.RowCells.{row_cells}
 use Rattle.result_rows.specs.declared.row.Row.{Row}
+use Rattle.honest_server.specs.State.{Terms}
 use Rattle.statement_forms.specs.Form.{query_form}
+use Rattle.statement_forms.specs.Statement.{QueryHasText}
+use Rattle.statement_forms.specs.Text.{command_text}
 use Rattle.statement_forms.specs.declared.command.Command.{Command}
 use Rattle.statement_forms.specs.declared.form.Form.{Form}
 use Rattle.statement_forms.specs.declared.query.Query.{Query}
 use Rattle.my_session.specs.Awaited.{further}
 use Rattle.my_session.specs.Halt.{Halts, Stops}
-use Rattle.my_session.specs.Statements.{IsRun, RunAwaits, RunSends, IsDescribed, QueryAwaits, QuerySends}
+use Rattle.my_session.specs.Statements.{IsRun, RunAwaits, RunSends, LeadAwaits, LeadSends, IsDescribed, QueryAwaits, QuerySends}
 use Rattle.my_session.specs.Login.{IsLoggedIn, LoginAwaits, LoginSends}
 use Rattle.my_session.specs.Wire.{Wire, Takes, Hears, IsOnward}
 use Rattle.my_session.specs.declared.peer.Peer.{Peer}
 use Rattle.my_session.specs.declared.fault.SessionFault.{SessionFault}
-use Rattle.my_session.specs.declared.fault.SessionFault.TheVariants.{Link, Refused, NotProtocol10, PluginUnsupported}
+use Rattle.my_session.specs.declared.fault.SessionFault.TheVariants.{Link, Refused, NotProtocol10, PluginUnsupported, OutOfMemory}
 
 -- the rows that are pending: where in the result set the reader is, and the form of the statement that asked for them
 pub record Pending : Type 0 where
@@ -69,6 +72,21 @@ IsOfStatement (NotProtocol10 version) = ⊥
 IsOfStatement (PluginUnsupported name) = ⊥
 IsOfStatement fault = Unit {0}
 
+-- a fault of a statement that ends the session
+pub record EndsStatement (fault : SessionFault) : Type 0 where
+  pub kind : IsOfStatement fault
+  pub ends : ends_session fault ≡ true
+
+-- the faults are of this kind, and none is for want of memory
+pub record NeedsNoMemory {A : Type 0} (IsSo : SessionFault → Type 0) (result : Result A SessionFault) : Type 0 where
+  pub kind : IfErr result IsSo
+  pub memory : result ≡ Err OutOfMemory → ⊥
+
+-- the faults of a command: one whose text has at most 1,000 bytes takes no memory
+pub record RunFaults (command : Command) (result : Result (Unit {0}) SessionFault) : Type 0 where
+  pub kind : IfErr result IsOfStatement
+  pub memory : length (command_text command) ≤ 1000 → result ≡ Err OutOfMemory → ⊥
+
 -- what running a command does
 abbrev pub Runs : Command → Wire → Result (Unit {0}) SessionFault → Wire → Type 0
 Runs command old (Ok done) new = Takes (IsRun command) old new
@@ -79,9 +97,23 @@ abbrev pub Asks : Ends → Query → Wire → Result ℕ SessionFault → Wire �
 Asks ends query old (Ok columns) new = Takes (λ steps. IsDescribed query steps (rows_of ends columns)) old new
 Asks ends query old (Err fault) new = Stops (QueryAwaits ends query) (QuerySends query) old fault new
 
+-- the USE before a query wasn't run
+abbrev pub LeadStops : Query → Wire → SessionFault → Wire → Type 0
+LeadStops query old fault new = Stops (LeadAwaits query) (LeadSends query) old fault new
+
+-- what hearing the messages before the rows does to a conversation that had come to this reading: it comes to the rows, or stops
+abbrev pub Describes : Query → Reading → Wire → Result (Unit {0}) SessionFault → Wire → Type 0
+Describes query reading old (Ok done) new = (start : Wire) → Takes (λ steps. IsDescribed query steps reading) start old → Takes (λ steps. IsDescribed query steps (rows_of reading.ends reading.columns)) start new
+Describes query reading old (Err fault) new = (start : Wire) → Takes (λ steps. IsDescribed query steps reading) start old → Stops (QueryAwaits reading.ends query) (QuerySends query) start fault new
+
+-- the rows of a query are pending, which have so many columns, and at least one
+pub record HasPending (ends : Ends) (query : Query) (columns : ℕ) (pending : Pending) : Type 0 where
+  pub some : 0 < columns
+  pub is : pending ≡ record { reading = rows_of ends columns; form = query_form query }
+
 -- what is pending after a query
 abbrev pub PendingAfter : Ends → Query → Result ℕ SessionFault → Pending → Type 0
-PendingAfter ends query (Ok columns) pending = pending ≡ record { reading = rows_of ends columns; form = query_form query }
+PendingAfter ends query (Ok columns) pending = HasPending ends query columns pending
 PendingAfter ends query (Err fault) pending = pending.reading ≡ idle ends
 
 -- the next message was heard and is a row with these cells
@@ -123,12 +155,33 @@ pub record ReaderView : Type 0 where
   pub has_failed : Bool
   pub pending : Pending
 
--- what reading the next row does to a reader of rows
-pub record NextRow (tells : Type 0) (old : ReaderView) (result : Result (Option Row) SessionFault) (tells_still : Type 0) (new : ReaderView) : Type 0 where
-  pub still : tells ↔ tells_still
+-- a reader that hasn't failed, and of which no rows are pending
+pub record IsFree (reader : ReaderView) : Type 0 where
+  pub alive : reader.has_failed ≡ false
+  pub none_pending : reader.pending.reading ≡ idle reader.peer.ends
+
+-- the query has a text, and the reader is free for it
+pub record MayAsk (query : Query) (reader : ReaderView) : Type 0 where
+  pub text : QueryHasText query
+  pub free : IsFree reader
+
+-- the same server is at the other end: honest or not, of one origin, and on the same terms
+pub record IsSameServer {S : Type 0} (is_honest : S → Type 0) (joins : S → S → Type 0) (terms_of : S → Terms) (old new : S) : Type 0 where
+  pub honest : is_honest old ↔ is_honest new
+  pub origin : joins old new
+  pub terms : is_honest old → terms_of new ≡ terms_of old
+
+-- what every call keeps of a reader: it tells as before, a fault of the link is counted, the greeting stands, and it has failed
+-- exactly after a fault that ends the session
+pub record KeepsReader {A : Type 0} (tells_before : Type 0) (old : ReaderView) (result : Result A SessionFault) (tells_now : Type 0) (new : ReaderView) : Type 0 where
+  pub tells : tells_before ↔ tells_now
   pub counted : IsCounted old.faults new.faults result
   pub peer : new.peer ≡ old.peer
-  pub has_failed : new.has_failed ≡ failed_by result
+  pub failed : new.has_failed ≡ failed_by result
+
+-- what reading the next row does to a reader of rows
+pub record NextRow (tells : Type 0) (old : ReaderView) (result : Result (Option Row) SessionFault) (tells_still : Type 0) (new : ReaderView) : Type 0 where
+  pub keeps : KeepsReader tells old result tells_still new
   pub pending : PendingAfterRow old.peer.ends old.pending result new.pending
   pub onward : MovesOn old.wire.place result new.wire.place
   pub takes : tells → TakesRow old.pending old.wire result new.wire
@@ -137,6 +190,19 @@ module _ {L : Type 0} (of : Ghosts L) where
   -- a link on which nothing was heard
   abbrev pub fresh : L → Wire
   fresh link = record { sent = (of.told link).sent; stream = stream (of.told link); place = 0; id = 0 }
+
+  -- a session as a reader of rows
+  abbrev pub reader_view : SessionView L → ReaderView
+  reader_view session = record { wire = wire_of of session; faults = of.faults session.link; peer = session.peer; has_failed = session.has_failed; pending = session.pending }
+
+  -- the same server is at the other end of a link
+  abbrev pub KeepsServer : L → L → Type 0
+  KeepsServer old new = IsSameServer of.honest of.same_origin (λ link. (of.served link).state.terms) old new
+
+  -- what every call keeps of a session
+  pub record KeepsSession {A : Type 0} (old new : SessionView L) (result : Result A SessionFault) : Type 0 where
+    pub server : KeepsServer old.link new.link
+    pub reader : KeepsReader (of.tells old.link) (reader_view old) result (of.tells new.link) (reader_view new)
 
   -- a session that was logged in over a link
   pub record LoggedIn (user password : List ℕ) (link : L) (session : SessionView L) : Type 0 where

@@ -1,5 +1,5 @@
 -- Statements and their replies (MySQL source documentation, COM_QUERY, COM_QUERY Response, ProtocolText::Resultset).
-use Rattle.std.specs.Prelude.{ℕ, ◌≡◌, ◌-◌, List, [], ◌∷◌, ◌++◌, length, map, replicate, Some}
+use Rattle.std.specs.Prelude.{ℕ, ◌≡◌, ◌-◌, List, [], ◌∷◌, ◌++◌, length, map, replicate, Option, Some, None}
 use Rattle.wire_forms.specs.Reading.{Reading, definition, awaited_count, columns_counted}
 use Rattle.wire_forms.specs.Reply.{reply_of}
 use Rattle.wire_forms.specs.ResultSet.{turns_of}
@@ -10,8 +10,8 @@ use Rattle.statement_forms.specs.Text.{command_text, query_text}
 use Rattle.statement_forms.specs.declared.command.Command.{Command}
 use Rattle.statement_forms.specs.declared.command.Command.TheVariants.{Use}
 use Rattle.statement_forms.specs.declared.query.Query.{Query}
-use Rattle.statement_forms.specs.declared.query.Query.TheVariants.{CreateTable, CreateView, CreateProcedure, CreateFunction, CreateTrigger, CreateEvent}
 use Rattle.my_session.specs.Awaited.{Awaited, done, count, further}
+use Rattle.my_session.specs.Lead.{lead_of}
 use Rattle.my_session.specs.Wire.{Step, commands, hears}
 
 -- COM_QUERY: 03 and the text
@@ -37,33 +37,32 @@ pub record RunSends (command : Command) (steps : List Step) (payload : List ℕ)
   pub steps_are : steps ≡ []
   pub payload_is : payload ≡ command_payload command
 
--- SHOW CREATE of what stands in a schema is asked for in that schema
+-- the USE of this schema was run, where there is one
+abbrev pub IsLedBy : Option (List ℕ) → List Step → Type 0
+IsLedBy (Some schema) steps = IsRun (Use schema) steps
+IsLedBy None steps = steps ≡ []
+
+-- what running that USE awaits after these steps
+abbrev pub LeadAwaitsBy : Option (List ℕ) → List Step → Awaited → Type 0
+LeadAwaitsBy (Some schema) steps awaited = RunAwaits (Use schema) steps awaited
+LeadAwaitsBy None steps awaited = ⊥
+
+-- what it sends after these steps
+abbrev pub LeadSendsBy : Option (List ℕ) → List Step → List ℕ → Type 0
+LeadSendsBy (Some schema) steps payload = RunSends (Use schema) steps payload
+LeadSendsBy None steps payload = ⊥
+
+-- the USE that leads a query was run, and nothing else
 abbrev pub IsLed : Query → List Step → Type 0
-IsLed (CreateTable schema name) steps = IsRun (Use schema) steps
-IsLed (CreateView schema name) steps = IsRun (Use schema) steps
-IsLed (CreateProcedure schema name) steps = IsRun (Use schema) steps
-IsLed (CreateFunction schema name) steps = IsRun (Use schema) steps
-IsLed (CreateTrigger schema name) steps = IsRun (Use schema) steps
-IsLed (CreateEvent schema name) steps = IsRun (Use schema) steps
-IsLed query steps = steps ≡ []
+IsLed query steps = IsLedBy (lead_of query) steps
 
+-- what leading a query awaits after these steps
 abbrev pub LeadAwaits : Query → List Step → Awaited → Type 0
-LeadAwaits (CreateTable schema name) steps awaited = RunAwaits (Use schema) steps awaited
-LeadAwaits (CreateView schema name) steps awaited = RunAwaits (Use schema) steps awaited
-LeadAwaits (CreateProcedure schema name) steps awaited = RunAwaits (Use schema) steps awaited
-LeadAwaits (CreateFunction schema name) steps awaited = RunAwaits (Use schema) steps awaited
-LeadAwaits (CreateTrigger schema name) steps awaited = RunAwaits (Use schema) steps awaited
-LeadAwaits (CreateEvent schema name) steps awaited = RunAwaits (Use schema) steps awaited
-LeadAwaits query steps awaited = ⊥
+LeadAwaits query steps awaited = LeadAwaitsBy (lead_of query) steps awaited
 
+-- what it sends after these steps
 abbrev pub LeadSends : Query → List Step → List ℕ → Type 0
-LeadSends (CreateTable schema name) steps payload = RunSends (Use schema) steps payload
-LeadSends (CreateView schema name) steps payload = RunSends (Use schema) steps payload
-LeadSends (CreateProcedure schema name) steps payload = RunSends (Use schema) steps payload
-LeadSends (CreateFunction schema name) steps payload = RunSends (Use schema) steps payload
-LeadSends (CreateTrigger schema name) steps payload = RunSends (Use schema) steps payload
-LeadSends (CreateEvent schema name) steps payload = RunSends (Use schema) steps payload
-LeadSends query steps payload = ⊥
+LeadSends query steps payload = LeadSendsBy (lead_of query) steps payload
 
 -- the query was sent
 pub record IsAsked (query : Query) (steps : List Step) : Type 0 where

@@ -1,19 +1,14 @@
 //! A link, what is sent on it, and the messages that are heard on it.
-ghost use Rattle.std.specs.Prelude.{◌≡◌, ◌≤◌, ◌<◌, ◌↔◌, ◌+◌, ◌++◌, ◌∷◌, [], length, take, false, IfErr, IfOk, OnOk, OnErr, Err};
-ghost use Rattle.honest_server.specs.Link.{IsExchanged, MaySend};
-ghost use Rattle.honest_server.specs.Exchange.{BeginsAt};
-ghost use Rattle.honest_server.specs.Moves.{plainly};
-ghost use Rattle.honest_server.specs.State.{in_session};
-ghost use Rattle.link_traits.specs.Link.{stream};
+ghost use Rattle.std.specs.Prelude.{◌≡◌, ◌≤◌, ◌<◌, ◌+◌, [], length, take, false, IfErr, IfOk, OnOk, Err};
+ghost use Rattle.honest_server.specs.Link.{MaySend};
 ghost use Rattle.wire_forms.specs.Packet.{packet};
-ghost use Rattle.my_session.specs.Channel.{ChannelView, channel_wire, IsOfChannel, IsUnsent, Skimmed, packets_within};
-ghost use Rattle.my_session.specs.Halt.{Misheard, Silent, Unsaid};
-ghost use Rattle.my_session.specs.Serving.{IsServing, Stays, MessageWaits, MakesNoObject, Delivers, DeliversFront, Replied};
-ghost use Rattle.my_session.specs.Session.{IsCounted, failed_by};
-ghost use Rattle.my_session.specs.Wire.{Hears, IsOnward, Sent};
+ghost use Rattle.my_session.specs.Channel.{ChannelView, link_of, packets_within, IsOfLink, IsUnsent};
+ghost use Rattle.my_session.specs.Channel.{SendsPackets, SendsNone, Says, SaysNone, HearsNext, SkimsNext, HearsNone};
+ghost use Rattle.my_session.specs.Serving.{IsServing, Keeps, MaySay, MessageWaits};
+ghost use Rattle.my_session.specs.Session.{failed_by};
 
 use crate::fault::SessionFault;
-use crate::limits::{MESSAGE_LIMIT, SHORT_PAYLOAD};
+use crate::limits::{MESSAGE_LIMIT, PIECE, SHORT_PAYLOAD};
 use crate::receiving::{receive, skim_message};
 use link_traits::Link;
 use my_packets::{Frames, Message, Skim, frame_into, header};
@@ -23,7 +18,8 @@ use std::marker::Model;
 // A short payload's one packet has at most so many bytes.
 const SHORT_PACKET: usize = SHORT_PAYLOAD + 4;
 
-/// A link, and the message that was heard last on it.
+/// A link, and the message that was heard last on it. It keeps the room of the longest payload that was
+/// sent, of the longest message that was heard, and of one receipt.
 #[derive(Drop)]
 pub struct Channel<L> {
     link: L,
@@ -36,6 +32,8 @@ pub struct Channel<L> {
     // The sequence id of the next packet.
     id: u8,
     has_failed: bool,
+    // The room into which bytes are received.
+    piece: [u8; PIECE],
 }
 
 impl<L> Model for Channel<L> {
@@ -63,15 +61,9 @@ fn packets_within(bytes: u64) -> u64
 fn send<L: Link>(link: &mut L, packets: &[u8]) -> Result<(), SessionFault>
     requires may { L.honest link.old → MaySend (L.served link.old).state packets.now }
 
-    ensures stays { Stays L.Link link.old link.new }
-    ensures alive { OnOk result (L.honest link.old → (L.served link.old).failed ≡ false) }
-    ensures answered { OnOk result (L.honest link.old → IsExchanged plainly (L.served link.old) packets.now (L.served link.new)) }
-    ensures tells { L.tells link.old ↔ L.tells link.new }
-    ensures counted { IsCounted (L.faults link.old) (L.faults link.new) result }
-    ensures fault { IfErr result (λ fault. fault ≡ SessionFault.Link) }
-    ensures sent { OnOk result (L.tells link.old → (L.told link.new).sent ≡ (L.told link.old).sent ++ packets.now ∷ []) }
-    ensures stream { OnOk result (L.tells link.old → stream (L.told link.new) ≡ stream (L.told link.old)) }
-    ensures silent { OnErr result (L.tells link.old → (L.told link.new).sent ≡ (L.told link.old).sent) }
+    ensures keeps { Keeps L.Link link.old link.new result }
+    ensures ok { OnOk result (SendsPackets L.Link packets.now link.old link.new) }
+    ensures err { IfErr result (SendsNone L.Link IsOfLink link.old link.new) }
 {
     match link.send(packets) {
         Ok(()) => Ok(()),
@@ -105,6 +97,7 @@ impl<L: Link> Channel<L> {
             began: 0,
             id: 0,
             has_failed: false,
+            piece: [0; PIECE],
         }
     }
 
@@ -120,27 +113,24 @@ impl<L: Link> Channel<L> {
             began: _,
             id: _,
             has_failed: _,
+            piece: _,
         } = self;
         link
     }
 
-    /// Sends bytes that are the packets of a payload, after which comes this id. Takes no memory.
+    /// Sends bytes that are the packets of a payload, after which comes this id. Takes no memory. `Link`
+    /// where the link fails; then nothing was sent. The channel mustn't have failed, and on an honest
+    /// link the bytes must be whole packets that may be sent now.
     pub fn send_packets(&mut self, packets: &[u8], next_id: u8) -> Result<(), SessionFault>
         requires alive { self.old.has_failed ≡ false }
         requires may { L.honest self.old.link → MaySend (L.served self.old.link).state packets.now }
 
-        ensures stays { Stays L.Link self.old.link self.new.link }
-        ensures served { OnOk result (L.honest self.old.link → (L.served self.old.link).failed ≡ false) }
-        ensures answered { OnOk result (L.honest self.old.link → IsExchanged plainly (L.served self.old.link) packets.now (L.served self.new.link)) }
-        ensures tells { L.tells self.old.link ↔ L.tells self.new.link }
-        ensures counted { IsCounted (L.faults self.old.link) (L.faults self.new.link) result }
+        ensures keeps { Keeps L.Link self.old.link self.new.link result }
         ensures failed { self.new.has_failed ≡ failed_by result }
-        ensures fault { IfErr result (λ fault. fault ≡ SessionFault.Link) }
         ensures place { self.new.place ≡ self.old.place }
         ensures id { OnOk result (self.new.id ≡ next_id) }
-        ensures sent { OnOk result (L.tells self.old.link → (L.told self.new.link).sent ≡ (L.told self.old.link).sent ++ packets.now ∷ []) }
-        ensures stream { OnOk result (L.tells self.old.link → stream (L.told self.new.link) ≡ stream (L.told self.old.link)) }
-        ensures silent { OnErr result (L.tells self.old.link → (L.told self.new.link).sent ≡ (L.told self.old.link).sent) }
+        ensures ok { OnOk result (SendsPackets L.Link packets.now self.old.link self.new.link) }
+        ensures err { IfErr result (SendsNone L.Link IsOfLink self.old.link self.new.link) }
     {
         match send(&mut self.link, packets) {
             Ok(()) => {
@@ -159,39 +149,33 @@ impl<L: Link> Channel<L> {
     fn say_short(&mut self, id: u8, payload: &[u8]) -> Result<(), SessionFault>
         requires alive { self.old.has_failed ≡ false }
         requires short { length payload.now ≤ SHORT_PAYLOAD }
-        requires begins { L.honest self.old.link → BeginsAt (L.served self.old.link).state.phase id }
-        requires no_create { L.honest self.old.link → (L.served self.old.link).state.phase ≡ in_session → (L.served self.old.link).state.terms.sole ≡ false → MakesNoObject payload.now }
+        requires may { L.honest self.old.link → MaySay id payload.now (L.served self.old.link).state }
 
-        ensures stays { Stays L.Link self.old.link self.new.link }
-        ensures replied { OnOk result (L.honest self.old.link → Replied L.Link payload.now self.old.link self.new.link self.new.id) }
-        ensures tells { L.tells self.old.link ↔ L.tells self.new.link }
-        ensures counted { IsCounted (L.faults self.old.link) (L.faults self.new.link) result }
+        ensures keeps { Keeps L.Link self.old.link self.new.link result }
         ensures failed { self.new.has_failed ≡ failed_by result }
-        ensures fault { IfErr result (λ fault. fault ≡ SessionFault.Link) }
-        ensures sent { OnOk result (L.tells self.old.link → Sent id payload.now (channel_wire L.Link self.old) (channel_wire L.Link self.new)) }
-        ensures silent { OnErr result (L.tells self.old.link → Silent (channel_wire L.Link self.old) (channel_wire L.Link self.new)) }
+        ensures ok { OnOk result (Says L.Link id payload.now self.old self.new) }
+        ensures err { IfErr result (SendsNone L.Link IsOfLink self.old.link self.new.link) }
     {
         let mut packet = [0; SHORT_PACKET];
         spell_packet(&mut packet, id, payload);
         self.send_packets(&packet[..payload.len() + 4], id.wrapping_add(1))
     }
 
-    /// Sends a payload in packets from this id on. `TooLong` exactly where it is longer than a message
-    /// may be. Takes no memory where it has at most 1,001 bytes.
+    /// Sends a payload in packets from this id on. `TooLong` exactly where it is longer than 67,108,864
+    /// bytes, `OutOfMemory` where there is none for its packets, and `Link` where the link fails;
+    /// nothing was sent then. Takes no memory where it has at most 1,001 bytes. The channel mustn't have
+    /// failed; on an honest link the server must await a packet of this id, and in a session on a link
+    /// that isn't sole the payload must be no object's text.
+    #[tactic(auto, using(crate::proofs::Sending::short_says_none, crate::proofs::Sending::short_takes_none, crate::proofs::Sending::long_says_none))]
     pub fn say(&mut self, id: u8, payload: &[u8]) -> Result<(), SessionFault>
         requires alive { self.old.has_failed ≡ false }
-        requires begins { L.honest self.old.link → BeginsAt (L.served self.old.link).state.phase id }
-        requires no_create { L.honest self.old.link → (L.served self.old.link).state.phase ≡ in_session → (L.served self.old.link).state.terms.sole ≡ false → MakesNoObject payload.now }
+        requires may { L.honest self.old.link → MaySay id payload.now (L.served self.old.link).state }
 
-        ensures stays { Stays L.Link self.old.link self.new.link }
-        ensures replied { OnOk result (L.honest self.old.link → Replied L.Link payload.now self.old.link self.new.link self.new.id) }
-        ensures tells { L.tells self.old.link ↔ L.tells self.new.link }
-        ensures counted { IsCounted (L.faults self.old.link) (L.faults self.new.link) result }
+        ensures keeps { Keeps L.Link self.old.link self.new.link result }
         ensures failed { self.new.has_failed ≡ failed_by result }
-        ensures kind { IfErr result IsOfChannel }
+        ensures ok { OnOk result (Says L.Link id payload.now self.old self.new) }
         ensures memory { length payload.now ≤ SHORT_PAYLOAD → result ≡ Err SessionFault.OutOfMemory → ⊥ }
-        ensures sent { OnOk result (L.tells self.old.link → Sent id payload.now (channel_wire L.Link self.old) (channel_wire L.Link self.new)) }
-        ensures err { IfErr result (λ fault. L.tells self.old.link → Unsaid payload.now (channel_wire L.Link self.old) fault (channel_wire L.Link self.new)) }
+        ensures err { IfErr result (SaysNone L.Link payload.now self.old self.new) }
     {
         if payload.len() <= SHORT_PAYLOAD {
             return self.say_short(id, payload);
@@ -204,20 +188,15 @@ impl<L: Link> Channel<L> {
     }
 
     /// Sends a further payload of the same exchange, with the ids after those of the message that was
-    /// heard last. Refusals and memory are those of [`Channel::say`].
+    /// heard last. Refusals, memory and conditions are those of [`Channel::say`].
     pub fn answer(&mut self, payload: &[u8]) -> Result<(), SessionFault>
         requires alive { self.old.has_failed ≡ false }
-        requires begins { L.honest self.old.link → BeginsAt (L.served self.old.link).state.phase self.old.id }
-        requires no_create { L.honest self.old.link → (L.served self.old.link).state.phase ≡ in_session → (L.served self.old.link).state.terms.sole ≡ false → MakesNoObject payload.now }
+        requires may { L.honest self.old.link → MaySay self.old.id payload.now (L.served self.old.link).state }
 
-        ensures stays { Stays L.Link self.old.link self.new.link }
-        ensures replied { OnOk result (L.honest self.old.link → Replied L.Link payload.now self.old.link self.new.link self.new.id) }
-        ensures tells { L.tells self.old.link ↔ L.tells self.new.link }
-        ensures counted { IsCounted (L.faults self.old.link) (L.faults self.new.link) result }
+        ensures keeps { Keeps L.Link self.old.link self.new.link result }
         ensures failed { self.new.has_failed ≡ failed_by result }
-        ensures kind { IfErr result IsOfChannel }
-        ensures sent { OnOk result (L.tells self.old.link → Sent self.old.id payload.now (channel_wire L.Link self.old) (channel_wire L.Link self.new)) }
-        ensures err { IfErr result (λ fault. L.tells self.old.link → Unsaid payload.now (channel_wire L.Link self.old) fault (channel_wire L.Link self.new)) }
+        ensures ok { OnOk result (Says L.Link self.old.id payload.now self.old self.new) }
+        ensures err { IfErr result (SaysNone L.Link payload.now self.old self.new) }
     {
         let id = self.id;
         self.say(id, payload)
@@ -227,17 +206,12 @@ impl<L: Link> Channel<L> {
     fn say_long(&mut self, id: u8, payload: &[u8]) -> Result<(), SessionFault>
         requires alive { self.old.has_failed ≡ false }
         requires within { length payload.now ≤ MESSAGE_LIMIT }
-        requires begins { L.honest self.old.link → BeginsAt (L.served self.old.link).state.phase id }
-        requires no_create { L.honest self.old.link → (L.served self.old.link).state.phase ≡ in_session → (L.served self.old.link).state.terms.sole ≡ false → MakesNoObject payload.now }
+        requires may { L.honest self.old.link → MaySay id payload.now (L.served self.old.link).state }
 
-        ensures stays { Stays L.Link self.old.link self.new.link }
-        ensures replied { OnOk result (L.honest self.old.link → Replied L.Link payload.now self.old.link self.new.link self.new.id) }
-        ensures tells { L.tells self.old.link ↔ L.tells self.new.link }
-        ensures counted { IsCounted (L.faults self.old.link) (L.faults self.new.link) result }
+        ensures keeps { Keeps L.Link self.old.link self.new.link result }
         ensures failed { self.new.has_failed ≡ failed_by result }
-        ensures fault { IfErr result IsUnsent }
-        ensures sent { OnOk result (L.tells self.old.link → Sent id payload.now (channel_wire L.Link self.old) (channel_wire L.Link self.new)) }
-        ensures silent { OnErr result (L.tells self.old.link → Silent (channel_wire L.Link self.old) (channel_wire L.Link self.new)) }
+        ensures ok { OnOk result (Says L.Link id payload.now self.old self.new) }
+        ensures err { IfErr result (SendsNone L.Link IsUnsent self.old.link self.new.link) }
     {
         self.packets.clear();
         let Ok(next_id) = frame_into(payload, id, &mut self.packets) else {
@@ -256,26 +230,28 @@ impl<L: Link> Channel<L> {
         }
     }
 
-    /// Hears the next message; [`Channel::message`] lends it.
+    /// Hears the next message; [`Channel::message`] lends it. `Garbled` where a packet has a wrong
+    /// sequence id, `TooLong` where the message has more than 67,108,864 bytes, `StreamTooLong` where
+    /// 2^62 bytes were heard before it ended, `OutOfMemory` and `Link` as their names say. The channel
+    /// mustn't have failed, and on an honest link that hasn't failed a whole message must wait.
     pub fn hear(&mut self) -> Result<(), SessionFault>
         requires alive { self.old.has_failed ≡ false }
         requires waits { IsServing L.Link self.old.link → MessageWaits self.old.id (L.served self.old.link).waiting }
 
-        ensures stays { Stays L.Link self.old.link self.new.link }
-        ensures served { OnOk result (L.honest self.old.link → (L.served self.old.link).failed ≡ false) }
-        ensures delivers { OnOk result (IsServing L.Link self.old.link → Delivers L.Link self.new.message self.old.link self.old.id self.new.link self.new.id) }
-        ensures tells { L.tells self.old.link ↔ L.tells self.new.link }
-        ensures counted { IsCounted (L.faults self.old.link) (L.faults self.new.link) result }
+        ensures keeps { Keeps L.Link self.old.link self.new.link result }
         ensures failed { self.new.has_failed ≡ failed_by result }
-        ensures kind { IfErr result IsOfChannel }
         ensures began { OnOk result (self.new.began ≡ self.old.place) }
-        ensures onward { OnOk result (IsOnward self.old.place self.new.place) }
-        ensures heard { OnOk result (L.tells self.old.link → Hears self.new.message (channel_wire L.Link self.old) (channel_wire L.Link self.new)) }
-        ensures err { IfErr result (λ fault. L.tells self.old.link → Misheard (channel_wire L.Link self.old) fault (channel_wire L.Link self.new)) }
+        ensures ok { OnOk result (HearsNext L.Link self.new.message (link_of self.old) (link_of self.new)) }
+        ensures err { IfErr result (HearsNone L.Link (link_of self.old) (link_of self.new)) }
     {
         self.frames.start(self.id);
         self.began = self.taken;
-        match receive(&mut self.link, &mut self.frames, &mut self.taken) {
+        match receive(
+            &mut self.link,
+            &mut self.frames,
+            &mut self.piece,
+            &mut self.taken,
+        ) {
             Ok(()) => {
                 self.id = self.frames.message().next_seq;
                 Ok(())
@@ -287,23 +263,20 @@ impl<L: Link> Channel<L> {
         }
     }
 
-    /// Hears the next message and keeps its first 1,024 bytes. Takes no memory.
+    /// Hears the next message and keeps its first 1,024 bytes. Takes no memory. Refusals and conditions
+    /// are those of [`Channel::hear`], without `OutOfMemory`.
     pub fn skim(&mut self) -> Result<Skim, SessionFault>
         requires alive { self.old.has_failed ≡ false }
         requires waits { IsServing L.Link self.old.link → MessageWaits self.old.id (L.served self.old.link).waiting }
 
-        ensures stays { Stays L.Link self.old.link self.new.link }
-        ensures delivers { IfOk result (λ skim. IsServing L.Link self.old.link → DeliversFront L.Link skim self.old.link self.old.id self.new.link self.new.id) }
-        ensures tells { L.tells self.old.link ↔ L.tells self.new.link }
-        ensures counted { IsCounted (L.faults self.old.link) (L.faults self.new.link) result }
+        ensures keeps { Keeps L.Link self.old.link self.new.link result }
         ensures failed { self.new.has_failed ≡ failed_by result }
-        ensures kind { IfErr result IsOfChannel }
         ensures memory { result ≡ Err SessionFault.OutOfMemory → ⊥ }
-        ensures heard { IfOk result (λ skim. L.tells self.old.link → Skimmed skim (channel_wire L.Link self.old) (channel_wire L.Link self.new)) }
-        ensures err { IfErr result (λ fault. L.tells self.old.link → Misheard (channel_wire L.Link self.old) fault (channel_wire L.Link self.new)) }
+        ensures ok { IfOk result (λ skim. SkimsNext L.Link skim (link_of self.old) (link_of self.new)) }
+        ensures err { IfErr result (HearsNone L.Link (link_of self.old) (link_of self.new)) }
     {
         let began = self.taken;
-        match skim_message(&mut self.link, self.id, &mut self.taken) {
+        match skim_message(&mut self.link, self.id, &mut self.piece, &mut self.taken) {
             Ok(skim) => {
                 let packets = packets_within(self.taken - began);
                 self.id = self.id.wrapping_add((packets % 256) as u8);

@@ -15,7 +15,7 @@ mod run;
 mod session;
 
 pub use fault::SessionFault;
-pub use laws::what_comes_next_is_one_thing;
+pub use laws::{limits_are_these, what_comes_next_is_one_thing};
 pub use limits::{MESSAGE_LIMIT, SESSION_LIMIT};
 pub use peer::Peer;
 pub use reads::Reads;

@@ -1,5 +1,5 @@
 //! Logging in.
-ghost use Rattle.std.specs.Prelude.{◌≡◌, ◌≤◌, ◌↔◌, ◌+◌, ℕ, List, length, false, Some, Ok, Err, IfErr, IfOk, OnOk, MatchResult, option_copied};
+ghost use Rattle.std.specs.Prelude.{◌≡◌, ◌≤◌, ◌+◌, length, false, Some, Ok, Err, IfErr, IfOk, OnOk, MatchResult, option_copied};
 ghost use Rattle.honest_server.specs.State.{greeted, switching, in_session};
 ghost use Rattle.wire_forms.specs.Response.{response};
 ghost use Rattle.wire_forms.specs.Switch.{switch_of};
@@ -7,16 +7,15 @@ ghost use Rattle.wire_forms.specs.Reply.{reply_of};
 ghost use Rattle.statement_forms.specs.declared.command.Command.{Command};
 ghost use Rattle.statement_forms.specs.declared.command.Command.TheVariants.{SetUp};
 ghost use Rattle.my_session.specs.Awaited.{greeting, decision, greeting_fault, decision_fault, switch_fault};
-ghost use Rattle.my_session.specs.Channel.{channel_wire};
-ghost use Rattle.my_session.specs.Halt.{Halts, Stops, Unsaid};
-ghost use Rattle.my_session.specs.Heard.{HearsGreeting, HearsDecision, IsDecision, IsAskedToSwitch};
-ghost use Rattle.my_session.specs.InStep.{phase_after, GreetingWaits, DecisionWaits, IsQuiet};
-ghost use Rattle.my_session.specs.Login.{password_answer, switch_answer, IsGreeted, IsAccepted, IsLoggedIn, LoginAwaits, LoginSends};
+ghost use Rattle.my_session.specs.Channel.{channel_wire, Says, SaysNone};
+ghost use Rattle.my_session.specs.Halt.{Halts};
+ghost use Rattle.my_session.specs.Heard.{HearsGreeting, HearsDecision, IsDecision, AcceptsSwitched, StopsSwitched, AcceptsGreeted, StopsGreeted, LoginStops};
+ghost use Rattle.my_session.specs.InStep.{phase_after, AwaitsGreeting, DecisionWaits, IsQuiet};
+ghost use Rattle.my_session.specs.Login.{password_answer, switch_answer, IsGreeted, IsLoggedIn};
 ghost use Rattle.my_session.specs.Peer.{IsPeerOf, peer_of};
-ghost use Rattle.my_session.specs.Serving.{IsServing, Stays};
-ghost use Rattle.my_session.specs.Session.{IsCounted, Runs, failed_by};
-ghost use Rattle.my_session.specs.Wire.{Wire, Sent, Takes};
-ghost use Rattle.my_session.specs.declared.peer.Peer.{Peer};
+ghost use Rattle.my_session.specs.Serving.{Keeps};
+ghost use Rattle.my_session.specs.Session.{Runs};
+ghost use Rattle.my_session.specs.Wire.{Takes};
 
 use crate::channel::Channel;
 use crate::fault::SessionFault;
@@ -85,15 +84,11 @@ fn peer_of(greeting: &Greeting) -> Peer
 
 // Hears the greeting.
 fn hear_greeting<L: Link>(channel: &mut Channel<L>) -> Result<Greeting, SessionFault>
-    requires alive { channel.old.has_failed ≡ false }
-    requires first { channel.old.id ≡ 0 }
-    requires greeting { IsServing L.Link channel.old.link → GreetingWaits L.Link channel.old.link }
+    requires awaits { AwaitsGreeting L.Link channel.old }
 
-    ensures stays { Stays L.Link channel.old.link channel.new.link }
+    ensures keeps { Keeps L.Link channel.old.link channel.new.link result }
     ensures quiet { OnOk result (L.honest channel.new.link → IsQuiet L.Link greeted channel.new.link) }
     ensures server { IfOk result (λ found. L.honest channel.new.link → IsPeerOf (L.served channel.new.link).state.terms.server (peer_of found)) }
-    ensures tells { L.tells channel.old.link ↔ L.tells channel.new.link }
-    ensures counted { IsCounted (L.faults channel.old.link) (L.faults channel.new.link) result }
     ensures alive { OnOk result (channel.new.has_failed ≡ false) }
     ensures heard { IfOk result (λ found. L.tells channel.old.link → HearsGreeting found (channel_wire L.Link channel.old) (channel_wire L.Link channel.new)) }
     ensures err { IfErr result (λ fault. L.tells channel.old.link → Halts greeting (channel_wire L.Link channel.old) fault (channel_wire L.Link channel.new)) }
@@ -119,13 +114,11 @@ fn respond<L: Link>(
     requires alive { channel.old.has_failed ≡ false }
     requires quiet { L.honest channel.old.link → IsQuiet L.Link greeted channel.old.link }
 
-    ensures stays { Stays L.Link channel.old.link channel.new.link }
+    ensures keeps { Keeps L.Link channel.old.link channel.new.link result }
     ensures decision { OnOk result (L.honest channel.new.link → DecisionWaits L.Link channel.new.link channel.new.id) }
-    ensures tells { L.tells channel.old.link ↔ L.tells channel.new.link }
-    ensures counted { IsCounted (L.faults channel.old.link) (L.faults channel.new.link) result }
     ensures alive { OnOk result (channel.new.has_failed ≡ false) }
-    ensures sent { OnOk result (L.tells channel.old.link → Sent channel.old.id (response user.now (option_copied answer.entry) ends) (channel_wire L.Link channel.old) (channel_wire L.Link channel.new)) }
-    ensures err { IfErr result (λ fault. L.tells channel.old.link → Unsaid (response user.now (option_copied answer.entry) ends) (channel_wire L.Link channel.old) fault (channel_wire L.Link channel.new)) }
+    ensures says { OnOk result (Says L.Link channel.old.id (response user.now (option_copied answer.entry) ends) channel.old channel.new) }
+    ensures err { IfErr result (SaysNone L.Link (response user.now (option_copied answer.entry) ends) channel.old channel.new) }
 {
     let mut out = Vec::new(alloc);
     if response_into(user, answer, ends, &mut out).is_err() {
@@ -141,18 +134,14 @@ fn greet<L: Link>(
     user: &[u8],
     password: &[u8],
 ) -> Result<Peer, SessionFault>
-    requires alive { channel.old.has_failed ≡ false }
-    requires first { channel.old.id ≡ 0 }
-    requires greeting { IsServing L.Link channel.old.link → GreetingWaits L.Link channel.old.link }
+    requires awaits { AwaitsGreeting L.Link channel.old }
 
-    ensures stays { Stays L.Link channel.old.link channel.new.link }
+    ensures keeps { Keeps L.Link channel.old.link channel.new.link result }
     ensures decision { OnOk result (L.honest channel.new.link → DecisionWaits L.Link channel.new.link channel.new.id) }
-    ensures tells { L.tells channel.old.link ↔ L.tells channel.new.link }
-    ensures counted { IsCounted (L.faults channel.old.link) (L.faults channel.new.link) result }
     ensures alive { OnOk result (channel.new.has_failed ≡ false) }
     ensures server { IfOk result (λ peer. L.honest channel.new.link → IsPeerOf (L.served channel.new.link).state.terms.server peer) }
     ensures ok { IfOk result (λ peer. L.tells channel.old.link → Takes (IsGreeted user.now password.now peer) (channel_wire L.Link channel.old) (channel_wire L.Link channel.new)) }
-    ensures err { IfErr result (λ fault. L.tells channel.old.link → Stops (LoginAwaits user.now password.now) (LoginSends user.now password.now) (channel_wire L.Link channel.old) fault (channel_wire L.Link channel.new)) }
+    ensures err { IfErr result (λ fault. L.tells channel.old.link → LoginStops user.now password.now (channel_wire L.Link channel.old) fault (channel_wire L.Link channel.new)) }
 {
     let greeting = match hear_greeting(channel) {
         Ok(greeting) => greeting,
@@ -198,10 +187,8 @@ fn hear_decision<L: Link>(channel: &mut Channel<L>) -> Result<Decision, SessionF
     requires alive { channel.old.has_failed ≡ false }
     requires decision { L.honest channel.old.link → DecisionWaits L.Link channel.old.link channel.old.id }
 
-    ensures stays { Stays L.Link channel.old.link channel.new.link }
+    ensures keeps { Keeps L.Link channel.old.link channel.new.link result }
     ensures quiet { IfOk result (λ found. L.honest channel.new.link → IsQuiet L.Link (phase_after found) channel.new.link) }
-    ensures tells { L.tells channel.old.link ↔ L.tells channel.new.link }
-    ensures counted { IsCounted (L.faults channel.old.link) (L.faults channel.new.link) result }
     ensures alive { OnOk result (channel.new.has_failed ≡ false) }
     ensures heard { IfOk result (λ found. L.tells channel.old.link → HearsDecision found (channel_wire L.Link channel.old) (channel_wire L.Link channel.new)) }
     ensures err { IfErr result (λ fault. L.tells channel.old.link → Halts decision (channel_wire L.Link channel.old) fault (channel_wire L.Link channel.new)) }
@@ -222,13 +209,11 @@ fn answer_switch<L: Link>(
     requires alive { channel.old.has_failed ≡ false }
     requires quiet { L.honest channel.old.link → IsQuiet L.Link switching channel.old.link }
 
-    ensures stays { Stays L.Link channel.old.link channel.new.link }
+    ensures keeps { Keeps L.Link channel.old.link channel.new.link result }
     ensures quiet { OnOk result (L.honest channel.new.link → IsQuiet L.Link in_session channel.new.link) }
-    ensures tells { L.tells channel.old.link ↔ L.tells channel.new.link }
-    ensures counted { IsCounted (L.faults channel.old.link) (L.faults channel.new.link) result }
     ensures alive { OnOk result (channel.new.has_failed ≡ false) }
-    ensures ok { OnOk result ((start : Wire) (user : List ℕ) (peer : Peer) → L.tells channel.old.link → Takes (IsAskedToSwitch user password.now peer switch) start (channel_wire L.Link channel.old) → Takes (IsAccepted user password.now peer) start (channel_wire L.Link channel.new)) }
-    ensures err { IfErr result (λ fault. (start : Wire) (user : List ℕ) (peer : Peer) → L.tells channel.old.link → Takes (IsAskedToSwitch user password.now peer switch) start (channel_wire L.Link channel.old) → Stops (LoginAwaits user password.now) (LoginSends user password.now) start fault (channel_wire L.Link channel.new)) }
+    ensures ok { OnOk result (L.tells channel.old.link → AcceptsSwitched password.now switch (channel_wire L.Link channel.old) (channel_wire L.Link channel.new)) }
+    ensures err { IfErr result (λ fault. L.tells channel.old.link → StopsSwitched password.now switch (channel_wire L.Link channel.old) fault (channel_wire L.Link channel.new)) }
 {
     let answer = password_answer(password, &switch.scramble);
     if let Err(fault) = send_answer(channel, answer.as_ref()) {
@@ -245,13 +230,11 @@ fn send_answer<L: Link>(
     requires alive { channel.old.has_failed ≡ false }
     requires quiet { L.honest channel.old.link → IsQuiet L.Link switching channel.old.link }
 
-    ensures stays { Stays L.Link channel.old.link channel.new.link }
+    ensures keeps { Keeps L.Link channel.old.link channel.new.link result }
     ensures decision { OnOk result (L.honest channel.new.link → DecisionWaits L.Link channel.new.link channel.new.id) }
-    ensures tells { L.tells channel.old.link ↔ L.tells channel.new.link }
-    ensures counted { IsCounted (L.faults channel.old.link) (L.faults channel.new.link) result }
     ensures alive { OnOk result (channel.new.has_failed ≡ false) }
-    ensures sent { OnOk result (L.tells channel.old.link → Sent channel.old.id (switch_answer (option_copied answer.entry)) (channel_wire L.Link channel.old) (channel_wire L.Link channel.new)) }
-    ensures err { IfErr result (λ fault. L.tells channel.old.link → Unsaid (switch_answer (option_copied answer.entry)) (channel_wire L.Link channel.old) fault (channel_wire L.Link channel.new)) }
+    ensures says { OnOk result (Says L.Link channel.old.id (switch_answer (option_copied answer.entry)) channel.old channel.new) }
+    ensures err { IfErr result (SaysNone L.Link (switch_answer (option_copied answer.entry)) channel.old channel.new) }
 {
     match answer {
         Some(bytes) => channel.answer(bytes),
@@ -264,13 +247,11 @@ fn be_accepted<L: Link>(channel: &mut Channel<L>, password: &[u8]) -> Result<(),
     requires alive { channel.old.has_failed ≡ false }
     requires decision { L.honest channel.old.link → DecisionWaits L.Link channel.old.link channel.old.id }
 
-    ensures stays { Stays L.Link channel.old.link channel.new.link }
+    ensures keeps { Keeps L.Link channel.old.link channel.new.link result }
     ensures quiet { OnOk result (L.honest channel.new.link → IsQuiet L.Link in_session channel.new.link) }
-    ensures tells { L.tells channel.old.link ↔ L.tells channel.new.link }
-    ensures counted { IsCounted (L.faults channel.old.link) (L.faults channel.new.link) result }
     ensures alive { OnOk result (channel.new.has_failed ≡ false) }
-    ensures ok { OnOk result ((start : Wire) (user : List ℕ) (peer : Peer) → L.tells channel.old.link → Takes (IsGreeted user password.now peer) start (channel_wire L.Link channel.old) → Takes (IsAccepted user password.now peer) start (channel_wire L.Link channel.new)) }
-    ensures err { IfErr result (λ fault. (start : Wire) (user : List ℕ) (peer : Peer) → L.tells channel.old.link → Takes (IsGreeted user password.now peer) start (channel_wire L.Link channel.old) → Stops (LoginAwaits user password.now) (LoginSends user password.now) start fault (channel_wire L.Link channel.new)) }
+    ensures ok { OnOk result (L.tells channel.old.link → AcceptsGreeted password.now (channel_wire L.Link channel.old) (channel_wire L.Link channel.new)) }
+    ensures err { IfErr result (λ fault. L.tells channel.old.link → StopsGreeted password.now (channel_wire L.Link channel.old) fault (channel_wire L.Link channel.new)) }
 {
     match hear_decision(channel) {
         Ok(Decision::Accepted) => Ok(()),
@@ -284,10 +265,8 @@ fn set_up<L: Link>(channel: &mut Channel<L>, payload: &mut Buffer) -> Result<(),
     requires alive { channel.old.has_failed ≡ false }
     requires quiet { L.honest channel.old.link → IsQuiet L.Link in_session channel.old.link }
 
-    ensures stays { Stays L.Link channel.old.link channel.new.link }
+    ensures keeps { Keeps L.Link channel.old.link channel.new.link result }
     ensures quiet { OnOk result (L.honest channel.new.link → IsQuiet L.Link in_session channel.new.link) }
-    ensures tells { L.tells channel.old.link ↔ L.tells channel.new.link }
-    ensures counted { IsCounted (L.faults channel.old.link) (L.faults channel.new.link) result }
     ensures alive { OnOk result (channel.new.has_failed ≡ false) }
     ensures room { OnOk result (SHORT_PAYLOAD ≤ length payload.new.bytes + payload.new.spare) }
     ensures runs { L.tells channel.old.link → Runs SetUp (channel_wire L.Link channel.old) result (channel_wire L.Link channel.new) }
@@ -306,19 +285,15 @@ pub(crate) fn log_in<L: Link>(
     user: &[u8],
     password: &[u8],
 ) -> Result<Peer, SessionFault>
-    requires alive { channel.old.has_failed ≡ false }
-    requires first { channel.old.id ≡ 0 }
-    requires greeting { IsServing L.Link channel.old.link → GreetingWaits L.Link channel.old.link }
+    requires awaits { AwaitsGreeting L.Link channel.old }
 
-    ensures stays { Stays L.Link channel.old.link channel.new.link }
+    ensures keeps { Keeps L.Link channel.old.link channel.new.link result }
     ensures quiet { OnOk result (L.honest channel.new.link → IsQuiet L.Link in_session channel.new.link) }
     ensures server { IfOk result (λ peer. L.honest channel.new.link → IsPeerOf (L.served channel.new.link).state.terms.server peer) }
-    ensures tells { L.tells channel.old.link ↔ L.tells channel.new.link }
-    ensures counted { IsCounted (L.faults channel.old.link) (L.faults channel.new.link) result }
     ensures alive { OnOk result (channel.new.has_failed ≡ false) }
     ensures room { OnOk result (SHORT_PAYLOAD ≤ length payload.new.bytes + payload.new.spare) }
     ensures ok { IfOk result (λ peer. L.tells channel.old.link → Takes (IsLoggedIn user.now password.now peer) (channel_wire L.Link channel.old) (channel_wire L.Link channel.new)) }
-    ensures err { IfErr result (λ fault. L.tells channel.old.link → Stops (LoginAwaits user.now password.now) (LoginSends user.now password.now) (channel_wire L.Link channel.old) fault (channel_wire L.Link channel.new)) }
+    ensures err { IfErr result (λ fault. L.tells channel.old.link → LoginStops user.now password.now (channel_wire L.Link channel.old) fault (channel_wire L.Link channel.new)) }
 {
     let peer = match greet(alloc, channel, user, password) {
         Ok(peer) => peer,

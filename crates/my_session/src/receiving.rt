@@ -1,15 +1,12 @@
 //! How the bytes of a message are taken off a link.
-ghost use Rattle.std.specs.Prelude.{◌≡◌, ◌≢◌, ◌<◌, ◌≤◌, ◌↔◌, ◌+◌, ◌-◌, ℕ, [], length, false, IfErr, IfOk, OnOk, OnErr, Err};
+ghost use Rattle.std.specs.Prelude.{◌≡◌, ◌<◌, ◌≤◌, ◌+◌, ◌-◌, ℕ, [], length, IfErr, IfOk, OnOk, OnErr, Err};
 ghost use Rattle.my_packets.specs.Front.{Wants};
-ghost use Rattle.wire_forms.specs.Packet.{id_after};
 ghost use Rattle.my_packets.specs.Skims.{wanted};
 ghost use Rattle.my_packets.specs.Steps.{Passes};
-ghost use Rattle.my_session.specs.Channel.{wire_at, IsOfChannel, Skimmed, packets_within};
-ghost use Rattle.my_session.specs.Halt.{Misheard};
-ghost use Rattle.my_session.specs.Receiving.{Fetches, SkimsPiece, Unfetched, Unsettled, Unskimmed};
-ghost use Rattle.my_session.specs.Serving.{IsServing, Stays, MessageWaits, Delivers, DeliversFront};
-ghost use Rattle.my_session.specs.Session.{IsCounted};
-ghost use Rattle.my_session.specs.Wire.{Hears, IsOnward};
+ghost use Rattle.my_session.specs.Channel.{link_at, HearsNext, HearsNone, SkimsTo};
+ghost use Rattle.my_session.specs.Receiving.{Fetches, IsReader, IsStillWithin, MayTake, SkimsPiece, StaysReader, reader_at, skimmer_at};
+ghost use Rattle.my_session.specs.Receiving.{Unfetched, Unsettled, Unskimmed};
+ghost use Rattle.my_session.specs.Serving.{IsServing, Keeps, MessageWaits};
 
 use crate::fault::SessionFault;
 use crate::limits::{MESSAGE_LIMIT, PIECE, SESSION_LIMIT};
@@ -34,30 +31,24 @@ fn room(wants: u32, taken: u64) -> usize
 fn fetch<L: Link>(
     link: &mut L,
     frames: &mut Frames,
+    piece: &mut [u8; PIECE],
     taken: &mut u64,
     wants: u32,
 ) -> Result<(), SessionFault>
     requires wants { 0 < wants }
-    requires within { taken.old ≤ SESSION_LIMIT }
+    requires may { MayTake L.Link link.old taken.old }
     requires place { frames.old.place + length frames.old.bytes ≤ taken.old }
-    requires waits { IsServing L.Link link.old → (L.served link.old).waiting ≢ [] }
 
-    ensures stays { Stays L.Link link.old link.new }
-    ensures tells { L.tells link.old ↔ L.tells link.new }
-    ensures counted { IsCounted (L.faults link.old) (L.faults link.new) result }
-    ensures within { taken.new ≤ SESSION_LIMIT }
-    ensures later { taken.old ≤ taken.new }
-    ensures place { frames.new.place ≡ frames.old.place }
-    ensures limit { frames.new.limit ≡ frames.old.limit }
-    ensures fetches { OnOk result (Fetches L.Link wants link.old link.new frames.old frames.new taken.old taken.new) }
-    ensures sent { L.tells link.old → (L.told link.new).sent ≡ (L.told link.old).sent }
+    ensures keeps { Keeps L.Link link.old link.new result }
+    ensures stays { StaysReader L.Link (reader_at link.old frames.old taken.old) (reader_at link.new frames.new taken.new) }
+    ensures ok { OnOk result (Fetches L.Link wants (reader_at link.old frames.old taken.old)
+        (reader_at link.new frames.new taken.new)) }
     ensures err { IfErr result (Unfetched taken.old) }
 {
     let room = room(wants, *taken);
     if room == 0 {
         return Err(SessionFault::StreamTooLong);
     }
-    let mut piece = [0; PIECE];
     let count = match link.recv(&mut piece[..room]) {
         Ok(count) => count,
         Err(_) => return Err(SessionFault::Link),
@@ -85,31 +76,26 @@ fn settle(frames: &mut Frames, began: u64) -> Result<(), SessionFault>
     }
 }
 
-/// Takes the next message off the link.
+/// Takes the next message off the link. Nothing may be unread, no more bytes may have been read than
+/// taken nor taken than a session hears, and on an honest link that hasn't failed a whole message must
+/// wait. Refusals are those of `Channel::hear`.
 pub(crate) fn receive<L: Link>(
     link: &mut L,
     frames: &mut Frames,
+    piece: &mut [u8; PIECE],
     taken: &mut u64,
 ) -> Result<(), SessionFault>
     requires empty { frames.old.bytes ≡ [] }
-    requires limit { frames.old.limit ≡ 67108864 }
-    requires place { frames.old.place ≤ taken.old }
-    requires within { taken.old ≤ SESSION_LIMIT }
+    requires reader { IsReader frames.old taken.old }
     requires waits { IsServing L.Link link.old → MessageWaits frames.old.id (L.served link.old).waiting }
 
-    ensures stays { Stays L.Link link.old link.new }
-    ensures alive { OnOk result (L.honest link.old → (L.served link.old).failed ≡ false) }
-    ensures delivers { OnOk result (IsServing L.Link link.old → Delivers L.Link frames.new.message link.old frames.old.id link.new frames.new.id) }
-    ensures tells { L.tells link.old ↔ L.tells link.new }
-    ensures counted { IsCounted (L.faults link.old) (L.faults link.new) result }
-    ensures kind { IfErr result IsOfChannel }
-    ensures limit { frames.new.limit ≡ 67108864 }
-    ensures place { frames.new.place ≤ taken.new }
-    ensures within { taken.new ≤ SESSION_LIMIT }
+    ensures keeps { Keeps L.Link link.old link.new result }
+    ensures reader { IsReader frames.new taken.new }
     ensures empty { OnOk result (frames.new.bytes ≡ []) }
-    ensures onward { OnOk result (IsOnward taken.old taken.new) }
-    ensures heard { OnOk result (L.tells link.old → Hears frames.new.message (wire_at L.Link link.old taken.old frames.old.id) (wire_at L.Link link.new taken.new frames.new.id)) }
-    ensures err { IfErr result (λ fault. L.tells link.old → Misheard (wire_at L.Link link.old taken.old frames.old.id) fault (wire_at L.Link link.new taken.new frames.new.id)) }
+    ensures ok { OnOk result (HearsNext L.Link frames.new.message (link_at link.old taken.old frames.old.id)
+        (link_at link.new taken.new frames.new.id)) }
+    ensures err { IfErr result (HearsNone L.Link (link_at link.old taken.old frames.old.id)
+        (link_at link.new taken.new frames.new.id)) }
 {
     let began = *taken;
     'pieces: loop {
@@ -117,7 +103,7 @@ pub(crate) fn receive<L: Link>(
         if wants == 0 {
             return settle(frames, began);
         }
-        if let Err(fault) = fetch(link, frames, taken, wants) {
+        if let Err(fault) = fetch(link, frames, piece, taken, wants) {
             return Err(fault);
         }
     }
@@ -127,29 +113,26 @@ pub(crate) fn receive<L: Link>(
 fn skim_piece<L: Link>(
     link: &mut L,
     skim: &mut Skim,
+    piece: &mut [u8; PIECE],
     taken: &mut u64,
     wants: u32,
     began: u64,
 ) -> Result<(), SessionFault>
     requires wants { 0 < wants }
     requires wanted { wants ≡ wanted skim.old }
-    requires within { taken.old ≤ SESSION_LIMIT }
-    requires waits { IsServing L.Link link.old → (L.served link.old).waiting ≢ [] }
+    requires may { MayTake L.Link link.old taken.old }
 
-    ensures stays { Stays L.Link link.old link.new }
-    ensures tells { L.tells link.old ↔ L.tells link.new }
-    ensures counted { IsCounted (L.faults link.old) (L.faults link.new) result }
-    ensures within { taken.new ≤ SESSION_LIMIT }
-    ensures later { taken.old ≤ taken.new }
+    ensures keeps { Keeps L.Link link.old link.new result }
+    ensures still { IsStillWithin taken.old taken.new }
     ensures sent { L.tells link.old → (L.told link.new).sent ≡ (L.told link.old).sent }
-    ensures skims { OnOk result (SkimsPiece L.Link link.old link.new skim.old skim.new taken.old taken.new) }
-    ensures err { IfErr result (Unskimmed L.Link link.old link.new skim.old taken.old began) }
+    ensures ok { OnOk result (SkimsPiece L.Link (skimmer_at link.old skim.old taken.old)
+        (skimmer_at link.new skim.new taken.new)) }
+    ensures err { IfErr result (Unskimmed L.Link (skimmer_at link.old skim.old taken.old) link.new began) }
 {
     let room = room(wants, *taken);
     if room == 0 {
         return Err(SessionFault::StreamTooLong);
     }
-    let mut piece = [0; PIECE];
     let count = match link.recv(&mut piece[..room]) {
         Ok(count) => count,
         Err(_) => return Err(SessionFault::Link),
@@ -163,26 +146,24 @@ fn skim_piece<L: Link>(
 }
 
 /// Takes the next message off the link, whose first packet has to have this sequence id, and keeps its
-/// front.
+/// front. No more bytes may have been taken than a session hears, and on an honest link that hasn't
+/// failed a whole message must wait. Takes no memory. Refusals are those of `Channel::skim`.
 pub(crate) fn skim_message<L: Link>(
     link: &mut L,
     id: u8,
+    piece: &mut [u8; PIECE],
     taken: &mut u64,
 ) -> Result<Skim, SessionFault>
     requires within { taken.old ≤ SESSION_LIMIT }
     requires waits { IsServing L.Link link.old → MessageWaits id (L.served link.old).waiting }
 
-    ensures stays { Stays L.Link link.old link.new }
-    ensures delivers { IfOk result (λ skim. IsServing L.Link link.old → DeliversFront L.Link skim link.old id link.new (id_after (packets_within (taken.new - taken.old)) id)) }
-    ensures tells { L.tells link.old ↔ L.tells link.new }
-    ensures counted { IsCounted (L.faults link.old) (L.faults link.new) result }
-    ensures kind { IfErr result IsOfChannel }
-    ensures memory { result ≡ Err SessionFault.OutOfMemory → ⊥ }
-    ensures within { taken.new ≤ SESSION_LIMIT }
-    ensures later { taken.old ≤ taken.new }
+    ensures keeps { Keeps L.Link link.old link.new result }
+    ensures still { IsStillWithin taken.old taken.new }
     ensures size { OnOk result (4 ≤ taken.new - taken.old) }
-    ensures heard { IfOk result (λ skim. L.tells link.old → Skimmed skim (wire_at L.Link link.old taken.old id) (wire_at L.Link link.new taken.new (id_after (packets_within (taken.new - taken.old)) id))) }
-    ensures err { IfErr result (λ fault. (now : ℕ) → L.tells link.old → Misheard (wire_at L.Link link.old taken.old id) fault (wire_at L.Link link.new taken.new now)) }
+    ensures memory { result ≡ Err SessionFault.OutOfMemory → ⊥ }
+    ensures ok { IfOk result (λ skim. SkimsTo L.Link skim (link_at link.old taken.old id) link.new taken.new) }
+    ensures err { IfErr result (λ fault. (now : ℕ) →
+        HearsNone L.Link (link_at link.old taken.old id) (link_at link.new taken.new now) fault) }
 {
     let began = *taken;
     let mut skim = Skim::new(id, MESSAGE_LIMIT);
@@ -191,7 +172,7 @@ pub(crate) fn skim_message<L: Link>(
         if wants == 0 {
             return Ok(skim);
         }
-        if let Err(fault) = skim_piece(link, &mut skim, taken, wants, began) {
+        if let Err(fault) = skim_piece(link, &mut skim, piece, taken, wants, began) {
             return Err(fault);
         }
     }

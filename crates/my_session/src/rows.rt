@@ -6,16 +6,16 @@ ghost use Rattle.statement_forms.specs.Form.{query_form};
 ghost use Rattle.statement_forms.specs.Statement.{QueryHasText};
 ghost use Rattle.statement_forms.specs.Text.{query_text};
 ghost use Rattle.my_session.specs.Awaited.{count, further};
-ghost use Rattle.my_session.specs.Channel.{channel_wire};
-ghost use Rattle.my_session.specs.Halt.{Halts, Stops, Unsaid};
+ghost use Rattle.my_session.specs.Channel.{channel_wire, Says, SaysNone};
+ghost use Rattle.my_session.specs.Halt.{Halts};
 ghost use Rattle.my_session.specs.Heard.{HearsReply, HearsDefinition, IsAfterRow, Judges};
 ghost use Rattle.honest_server.specs.State.{in_session};
-ghost use Rattle.my_session.specs.InStep.{IsOpen, IsQuiet, ReplyWaits};
+ghost use Rattle.my_session.specs.InStep.{AwaitsDefinition, AwaitsReply, AwaitsRest, AwaitsRow, FollowsEnds, HasCounted, HasOpened, IsAtRest, IsHeardNext, FailsStatement};
 ghost use Rattle.my_session.specs.Lead.{lead_of};
-ghost use Rattle.my_session.specs.Serving.{Stays};
-ghost use Rattle.my_session.specs.Session.{Asks, IsCounted, IsOfStatement, ends_session, failed_by, rows_of};
-ghost use Rattle.my_session.specs.Statements.{IsLed, LeadAwaits, LeadSends, IsAsked, IsDescribed, QueryAwaits, QuerySends, query_payload};
-ghost use Rattle.my_session.specs.Wire.{Wire, Hears, IsOnward, Sent, Takes};
+ghost use Rattle.my_session.specs.Serving.{Keeps};
+ghost use Rattle.my_session.specs.Session.{Asks, Describes, EndsStatement, IsOfStatement, LeadStops, failed_by, rows_of};
+ghost use Rattle.my_session.specs.Statements.{IsLed, query_payload};
+ghost use Rattle.my_session.specs.Wire.{Hears, Takes};
 
 use crate::channel::Channel;
 use crate::fault::SessionFault;
@@ -76,18 +76,14 @@ fn lead<L: Link>(
     payload: &mut Buffer,
     query: &Query<'_>,
 ) -> Result<(), SessionFault>
-    requires alive { channel.old.has_failed ≡ false }
-    requires quiet { L.honest channel.old.link → IsQuiet L.Link in_session channel.old.link }
+    requires rest { IsAtRest L.Link in_session channel.old }
 
-    ensures stays { Stays L.Link channel.old.link channel.new.link }
-    ensures quiet { failed_by result ≡ false → L.honest channel.new.link → IsQuiet L.Link in_session channel.new.link }
-    ensures tells { L.tells channel.old.link ↔ L.tells channel.new.link }
-    ensures counted { IsCounted (L.faults channel.old.link) (L.faults channel.new.link) result }
-    ensures alive { failed_by result ≡ false → channel.new.has_failed ≡ false }
+    ensures keeps { Keeps L.Link channel.old.link channel.new.link result }
+    ensures rest { failed_by result ≡ false → IsAtRest L.Link in_session channel.new }
     ensures room { length payload.old.bytes + payload.old.spare ≤ length payload.new.bytes + payload.new.spare }
     ensures fault { IfErr result IsOfStatement }
     ensures ok { OnOk result (L.tells channel.old.link → Takes (IsLed query.now) (channel_wire L.Link channel.old) (channel_wire L.Link channel.new)) }
-    ensures err { IfErr result (λ fault. L.tells channel.old.link → Stops (LeadAwaits query.now) (LeadSends query.now) (channel_wire L.Link channel.old) fault (channel_wire L.Link channel.new)) }
+    ensures err { IfErr result (λ fault. L.tells channel.old.link → LeadStops query.now (channel_wire L.Link channel.old) fault (channel_wire L.Link channel.new)) }
 {
     match lead_of(query) {
         Some(schema) => run_on(channel, payload, &Command::Use(Part::of(schema))),
@@ -122,19 +118,14 @@ fn send_query<L: Link>(
     query: &Query<'_>,
 ) -> Result<(), SessionFault>
     requires text { QueryHasText query.now }
-    requires alive { channel.old.has_failed ≡ false }
-    requires quiet { L.honest channel.old.link → IsQuiet L.Link in_session channel.old.link }
+    requires rest { IsAtRest L.Link in_session channel.old }
 
-    ensures stays { Stays L.Link channel.old.link channel.new.link }
-    ensures replied { OnOk result (L.honest channel.new.link → ReplyWaits L.Link channel.new.link channel.new.id) }
-    ensures ends { IfErr result (λ fault. ends_session fault ≡ true) }
-    ensures tells { L.tells channel.old.link ↔ L.tells channel.new.link }
-    ensures counted { IsCounted (L.faults channel.old.link) (L.faults channel.new.link) result }
-    ensures alive { failed_by result ≡ false → channel.new.has_failed ≡ false }
+    ensures keeps { Keeps L.Link channel.old.link channel.new.link result }
+    ensures awaits { OnOk result (AwaitsReply L.Link channel.new) }
     ensures room { length payload.old.bytes + payload.old.spare ≤ length payload.new.bytes + payload.new.spare }
-    ensures fault { IfErr result IsOfStatement }
-    ensures sent { OnOk result (L.tells channel.old.link → Sent 0 (query_payload (query_text query.now)) (channel_wire L.Link channel.old) (channel_wire L.Link channel.new)) }
-    ensures err { IfErr result (λ fault. L.tells channel.old.link → Unsaid (query_payload (query_text query.now)) (channel_wire L.Link channel.old) fault (channel_wire L.Link channel.new)) }
+    ensures fault { IfErr result EndsStatement }
+    ensures says { OnOk result (Says L.Link 0 (query_payload (query_text query.now)) channel.old channel.new) }
+    ensures err { IfErr result (SaysNone L.Link (query_payload (query_text query.now)) channel.old channel.new) }
 {
     if let Err(fault) = write_query(payload, query) {
         return Err(fault);
@@ -149,20 +140,12 @@ fn hear_count<L: Link>(
     reader: &mut RowReader,
     form: Form,
 ) -> Result<u32, SessionFault>
-    requires alive { channel.old.has_failed ≡ false }
-    requires waits { L.honest channel.old.link → ReplyWaits L.Link channel.old.link channel.old.id }
+    requires awaits { AwaitsReply L.Link channel.old }
     requires server { L.honest channel.old.link → reader.old.ends ≡ (L.served channel.old.link).state.terms.server.ends }
 
-    ensures stays { Stays L.Link channel.old.link channel.new.link }
-    ensures rest { IfOk result (λ columns. L.honest channel.new.link → IsOpen L.Link channel.new.link channel.new.id (columns_counted reader.old.ends columns)) }
-    ensures quiet { IfErr result (λ fault. ends_session fault ≡ false → L.honest channel.new.link → IsQuiet L.Link in_session channel.new.link) }
-    ensures tells { L.tells channel.old.link ↔ L.tells channel.new.link }
-    ensures counted { IsCounted (L.faults channel.old.link) (L.faults channel.new.link) result }
-    ensures alive { failed_by result ≡ false → channel.new.has_failed ≡ false }
-    ensures fault { IfErr result IsOfStatement }
-    ensures some { IfOk result (λ columns. 0 < columns) }
-    ensures few { IfOk result (λ columns. columns < 65536) }
-    ensures reader { IfOk result (λ columns. reader.new ≡ columns_counted reader.old.ends columns) }
+    ensures keeps { Keeps L.Link channel.old.link channel.new.link result }
+    ensures counted { IfOk result (λ columns. HasCounted L.Link reader.old.ends columns channel.new reader.new) }
+    ensures fault { IfErr result (λ fault. FailsStatement L.Link fault channel.new) }
     ensures heard { IfOk result (λ columns. L.tells channel.old.link → HearsReply (Some (Columns columns)) (channel_wire L.Link channel.old) (channel_wire L.Link channel.new)) }
     ensures err { IfErr result (λ fault. L.tells channel.old.link → Halts (count form) (channel_wire L.Link channel.old) fault (channel_wire L.Link channel.new)) }
 {
@@ -178,8 +161,7 @@ fn hear_count<L: Link>(
 
 // Whether a message is a column definition, or the EOF after the definitions, where one is awaited.
 fn is_definition(reader: &mut RowReader, message: Message<'_>) -> bool
-    requires pending { 0 < reader.old.columns }
-    requires awaited { 0 < reader.old.awaited }
+    requires awaits { AwaitsDefinition reader.old }
 
     ensures turn { further_of reader.old message.entry.payload.now ≡ definition_if result }
     ensures after { reader.new ≡ reading_after reader.old (definition_if result) }
@@ -199,18 +181,12 @@ fn hear_definition<L: Link>(
     reader: &mut RowReader,
     form: Form,
 ) -> Result<(), SessionFault>
-    requires alive { channel.old.has_failed ≡ false }
-    requires pending { 0 < reader.old.columns }
-    requires awaited { 0 < reader.old.awaited }
-    requires rest { L.honest channel.old.link → IsOpen L.Link channel.old.link channel.old.id reader.old }
+    requires awaits { AwaitsDefinition reader.old }
+    requires rest { AwaitsRest L.Link channel.old reader.old }
 
-    ensures stays { Stays L.Link channel.old.link channel.new.link }
-    ensures rest { OnOk result (L.honest channel.new.link → IsOpen L.Link channel.new.link channel.new.id reader.new) }
-    ensures ends { IfErr result (λ fault. ends_session fault ≡ true) }
-    ensures tells { L.tells channel.old.link ↔ L.tells channel.new.link }
-    ensures counted { IsCounted (L.faults channel.old.link) (L.faults channel.new.link) result }
-    ensures alive { failed_by result ≡ false → channel.new.has_failed ≡ false }
-    ensures fault { IfErr result IsOfStatement }
+    ensures keeps { Keeps L.Link channel.old.link channel.new.link result }
+    ensures rest { OnOk result (AwaitsRest L.Link channel.new reader.new) }
+    ensures fault { IfErr result EndsStatement }
     ensures reader { OnOk result (reader.new ≡ record reader.old { awaited = reader.old.awaited - 1 }) }
     ensures heard { OnOk result (L.tells channel.old.link → HearsDefinition reader.old (channel_wire L.Link channel.old) (channel_wire L.Link channel.new)) }
     ensures err { IfErr result (λ fault. L.tells channel.old.link → Halts (further form reader.old) (channel_wire L.Link channel.old) fault (channel_wire L.Link channel.new)) }
@@ -245,22 +221,13 @@ fn describe<L: Link>(
     ends: Ends,
     columns: u32,
 ) -> Result<(), SessionFault>
-    requires alive { channel.old.has_failed ≡ false }
-    requires some { 0 < columns }
-    requires few { columns < 65536 }
-    requires reader { reader.old ≡ columns_counted ends columns }
-    requires rest { L.honest channel.old.link → IsOpen L.Link channel.old.link channel.old.id reader.old }
+    requires counted { HasCounted L.Link ends columns channel.old reader.old }
 
-    ensures stays { Stays L.Link channel.old.link channel.new.link }
-    ensures rest { OnOk result (L.honest channel.new.link → IsOpen L.Link channel.new.link channel.new.id reader.new) }
-    ensures ends { IfErr result (λ fault. ends_session fault ≡ true) }
-    ensures tells { L.tells channel.old.link ↔ L.tells channel.new.link }
-    ensures counted { IsCounted (L.faults channel.old.link) (L.faults channel.new.link) result }
-    ensures alive { failed_by result ≡ false → channel.new.has_failed ≡ false }
-    ensures fault { IfErr result IsOfStatement }
+    ensures keeps { Keeps L.Link channel.old.link channel.new.link result }
+    ensures rest { OnOk result (AwaitsRest L.Link channel.new reader.new) }
+    ensures fault { IfErr result EndsStatement }
     ensures reader { OnOk result (reader.new ≡ rows_of ends columns) }
-    ensures ok { OnOk result ((start : Wire) → L.tells channel.old.link → Takes (λ steps. IsDescribed query.now steps (columns_counted ends columns)) start (channel_wire L.Link channel.old) → Takes (λ steps. IsDescribed query.now steps (rows_of ends columns)) start (channel_wire L.Link channel.new)) }
-    ensures err { IfErr result (λ fault. (start : Wire) → L.tells channel.old.link → Takes (λ steps. IsDescribed query.now steps (columns_counted ends columns)) start (channel_wire L.Link channel.old) → Stops (QueryAwaits ends query.now) (QuerySends query.now) start fault (channel_wire L.Link channel.new)) }
+    ensures describes { L.tells channel.old.link → Describes query.now (columns_counted ends columns) (channel_wire L.Link channel.old) result (channel_wire L.Link channel.new) }
 {
     let form = query.form();
     let mut left = awaited_count(ends, columns);
@@ -282,21 +249,13 @@ fn ask<L: Link>(
     ends: Ends,
 ) -> Result<u32, SessionFault>
     requires text { QueryHasText query.now }
-    requires alive { channel.old.has_failed ≡ false }
-    requires reader { reader.old.ends ≡ ends }
-    requires server { L.honest channel.old.link → ends ≡ (L.served channel.old.link).state.terms.server.ends }
-    requires quiet { L.honest channel.old.link → IsQuiet L.Link in_session channel.old.link }
+    requires rest { IsAtRest L.Link in_session channel.old }
+    requires follows { FollowsEnds L.Link ends reader.old channel.old.link }
 
-    ensures stays { Stays L.Link channel.old.link channel.new.link }
-    ensures rest { IfOk result (λ columns. L.honest channel.new.link → IsOpen L.Link channel.new.link channel.new.id (rows_of ends columns)) }
-    ensures quiet { IfErr result (λ fault. ends_session fault ≡ false → L.honest channel.new.link → IsQuiet L.Link in_session channel.new.link) }
-    ensures tells { L.tells channel.old.link ↔ L.tells channel.new.link }
-    ensures counted { IsCounted (L.faults channel.old.link) (L.faults channel.new.link) result }
-    ensures alive { failed_by result ≡ false → channel.new.has_failed ≡ false }
+    ensures keeps { Keeps L.Link channel.old.link channel.new.link result }
+    ensures opened { IfOk result (λ columns. HasOpened L.Link ends columns channel.new reader.new) }
     ensures room { length payload.old.bytes + payload.old.spare ≤ length payload.new.bytes + payload.new.spare }
-    ensures fault { IfErr result IsOfStatement }
-    ensures columns { IfOk result (λ columns. 0 < columns) }
-    ensures reader { IfOk result (λ columns. reader.new ≡ rows_of ends columns) }
+    ensures fault { IfErr result (λ fault. FailsStatement L.Link fault channel.new) }
     ensures asks { L.tells channel.old.link → Asks ends query.now (channel_wire L.Link channel.old) result (channel_wire L.Link channel.new) }
 {
     if let Err(fault) = lead(channel, payload, query) {
@@ -323,9 +282,7 @@ fn judge(
     form: Form,
     message: Message<'_>,
 ) -> Result<bool, SessionFault>
-    requires pending { 0 < reader.old.columns }
-    requires rows { reader.old.awaited ≡ 0 }
-    requires ends { reader.old.ends ≡ ends }
+    requires awaits { AwaitsRow ends reader.old }
 
     ensures { Judges ends reader.old form message.entry.payload.now message.entry.place result reader.new }
 {
@@ -350,19 +307,12 @@ fn advance<L: Link>(
     ends: Ends,
     form: Form,
 ) -> Result<bool, SessionFault>
-    requires alive { channel.old.has_failed ≡ false }
-    requires pending { 0 < reader.old.columns }
-    requires rows { reader.old.awaited ≡ 0 }
-    requires ends { reader.old.ends ≡ ends }
-    requires rest { L.honest channel.old.link → IsOpen L.Link channel.old.link channel.old.id reader.old }
+    requires awaits { AwaitsRow ends reader.old }
+    requires rest { AwaitsRest L.Link channel.old reader.old }
 
-    ensures stays { Stays L.Link channel.old.link channel.new.link }
-    ensures is_open { failed_by result ≡ false → L.honest channel.new.link → IsOpen L.Link channel.new.link channel.new.id reader.new }
-    ensures tells { L.tells channel.old.link ↔ L.tells channel.new.link }
-    ensures counted { IsCounted (L.faults channel.old.link) (L.faults channel.new.link) result }
-    ensures alive { failed_by result ≡ false → channel.new.has_failed ≡ false }
-    ensures began { OnOk result (channel.new.began ≡ channel.old.place) }
-    ensures onward { OnOk result (IsOnward channel.old.place channel.new.place) }
+    ensures keeps { Keeps L.Link channel.old.link channel.new.link result }
+    ensures rest { failed_by result ≡ false → AwaitsRest L.Link channel.new reader.new }
+    ensures next { OnOk result (IsHeardNext channel.old channel.new) }
     ensures reader { MatchResult result (λ is_row. IsAfterRow ends reader.old channel.new.message is_row reader.new) (λ _. reader.new ≡ idle ends) }
     ensures heard { OnOk result (L.tells channel.old.link → Hears channel.new.message (channel_wire L.Link channel.old) (channel_wire L.Link channel.new)) }
     ensures err { IfErr result (λ fault. L.tells channel.old.link → Halts (further form reader.old) (channel_wire L.Link channel.old) fault (channel_wire L.Link channel.new)) }
@@ -375,7 +325,7 @@ fn advance<L: Link>(
 }
 
 impl<L: Link> Reads for Session<L> {
-    ghost use Rattle.my_session.specs.Session.{ReaderView, wire_of};
+    ghost use Rattle.my_session.specs.Session.{reader_view};
 
     ghost honest = { λ session. L.honest session.link };
 
@@ -385,7 +335,7 @@ impl<L: Link> Reads for Session<L> {
 
     ghost tells = { λ session. L.tells session.link };
 
-    ghost view = { λ session. record { wire = wire_of L.Link session; faults = L.faults session.link; peer = session.peer; has_failed = session.has_failed; pending = session.pending } };
+    ghost view = { reader_view L.Link };
 
     ghost origin_begins = { λ one. L.origin_begins one.link };
 

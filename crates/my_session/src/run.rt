@@ -1,16 +1,16 @@
 //! Commands, and the first message of a reply.
-ghost use Rattle.std.specs.Prelude.{◌≡◌, ◌≤◌, ◌↔◌, ◌+◌, length, false, Some, IfErr, IfOk, OnOk, OnErr, Err};
+ghost use Rattle.std.specs.Prelude.{◌≡◌, ◌≤◌, ◌+◌, length, false, Some, IfErr, IfOk, OnOk, Err};
 ghost use Rattle.wire_forms.specs.Reply.{reply_of};
 ghost use Rattle.statement_forms.specs.Statement.{CommandHasText};
 ghost use Rattle.statement_forms.specs.Text.{command_text};
 ghost use Rattle.my_session.specs.Awaited.{done};
 ghost use Rattle.my_session.specs.Channel.{channel_wire, IsOfChannel};
 ghost use Rattle.my_session.specs.Halt.{Halts, Misheard};
-ghost use Rattle.my_session.specs.Heard.{HasColumns, HearsReply, reading_of};
+ghost use Rattle.my_session.specs.Heard.{HasColumns, HearsReply, ReadsReply, reading_of};
 ghost use Rattle.honest_server.specs.State.{in_session};
-ghost use Rattle.my_session.specs.InStep.{IsQuiet, MakesNothing};
-ghost use Rattle.my_session.specs.Serving.{IsServing, Stays, MessageWaits, DeliversReply, DeliversRefusal};
-ghost use Rattle.my_session.specs.Session.{IsCounted, IsOfStatement, Runs, ends_session, failed_by};
+ghost use Rattle.my_session.specs.InStep.{AwaitsMessage, IsAtRest, MayRun, ServesRefusal, ServesReply};
+ghost use Rattle.my_session.specs.Serving.{Keeps};
+ghost use Rattle.my_session.specs.Session.{IsOfStatement, NeedsNoMemory, Runs, ends_session, failed_by};
 ghost use Rattle.my_session.specs.Statements.{command_payload};
 
 use crate::channel::Channel;
@@ -28,18 +28,13 @@ pub(crate) fn hear_reply<L: Link>(
     channel: &mut Channel<L>,
     reader: &mut RowReader,
 ) -> Result<Option<Reply>, SessionFault>
-    requires alive { channel.old.has_failed ≡ false }
-    requires waits { IsServing L.Link channel.old.link → MessageWaits channel.old.id (L.served channel.old.link).waiting }
+    requires awaits { AwaitsMessage L.Link channel.old }
 
-    ensures stays { Stays L.Link channel.old.link channel.new.link }
-    ensures delivers { IfOk result (λ reply. IsServing L.Link channel.old.link → DeliversReply L.Link reply channel.old.link channel.old.id channel.new.link channel.new.id) }
-    ensures tells { L.tells channel.old.link ↔ L.tells channel.new.link }
-    ensures counted { IsCounted (L.faults channel.old.link) (L.faults channel.new.link) result }
+    ensures keeps { Keeps L.Link channel.old.link channel.new.link result }
+    ensures delivers { IfOk result (λ reply. ServesReply L.Link reply channel.old channel.new) }
     ensures alive { OnOk result (channel.new.has_failed ≡ false) }
-    ensures kind { IfErr result IsOfChannel }
-    ensures memory { result ≡ Err SessionFault.OutOfMemory → ⊥ }
-    ensures columns { IfOk result HasColumns }
-    ensures reader { IfOk result (λ reply. reader.new ≡ reading_of reader.old.ends reply) }
+    ensures fault { NeedsNoMemory IsOfChannel result }
+    ensures reads { IfOk result (λ reply. ReadsReply reader.old reply reader.new) }
     ensures heard { IfOk result (λ reply. L.tells channel.old.link → HearsReply reply (channel_wire L.Link channel.old) (channel_wire L.Link channel.new)) }
     ensures err { IfErr result (λ fault. L.tells channel.old.link → Misheard (channel_wire L.Link channel.old) fault (channel_wire L.Link channel.new)) }
 {
@@ -61,17 +56,13 @@ pub(crate) fn read_reply(payload: &[u8], reader: &mut RowReader) -> Option<Reply
 /// Takes no memory.
 #[tactic(auto, using(crate::proofs::Answering::halts_done, crate::proofs::Answering::misheard_halts, crate::proofs::Answering::channel_of_statement, crate::proofs::Answering::channel_ends))]
 pub(crate) fn hear_done<L: Link>(channel: &mut Channel<L>, form: Form) -> Result<(), SessionFault>
-    requires alive { channel.old.has_failed ≡ false }
-    requires waits { IsServing L.Link channel.old.link → MessageWaits channel.old.id (L.served channel.old.link).waiting }
+    requires awaits { AwaitsMessage L.Link channel.old }
 
-    ensures stays { Stays L.Link channel.old.link channel.new.link }
-    ensures done { OnOk result (IsServing L.Link channel.old.link → DeliversReply L.Link (Some Reply.Done) channel.old.link channel.old.id channel.new.link channel.new.id) }
-    ensures refusal { IfErr result (λ fault. ends_session fault ≡ false → IsServing L.Link channel.old.link → DeliversRefusal L.Link channel.old.link channel.old.id channel.new.link channel.new.id) }
-    ensures tells { L.tells channel.old.link ↔ L.tells channel.new.link }
-    ensures counted { IsCounted (L.faults channel.old.link) (L.faults channel.new.link) result }
+    ensures keeps { Keeps L.Link channel.old.link channel.new.link result }
+    ensures done { OnOk result (ServesReply L.Link (Some Reply.Done) channel.old channel.new) }
+    ensures refusal { IfErr result (λ fault. ends_session fault ≡ false → ServesRefusal L.Link channel.old channel.new) }
     ensures alive { failed_by result ≡ false → channel.new.has_failed ≡ false }
-    ensures fault { IfErr result IsOfStatement }
-    ensures memory { result ≡ Err SessionFault.OutOfMemory → ⊥ }
+    ensures fault { NeedsNoMemory IsOfStatement result }
     ensures heard { OnOk result (L.tells channel.old.link → HearsReply (Some Reply.Done) (channel_wire L.Link channel.old) (channel_wire L.Link channel.new)) }
     ensures err { IfErr result (λ fault. L.tells channel.old.link → Halts (done form) (channel_wire L.Link channel.old) fault (channel_wire L.Link channel.new)) }
 {
@@ -113,16 +104,11 @@ pub(crate) fn run_on<L: Link>(
     payload: &mut Buffer,
     command: &Command<'_>,
 ) -> Result<(), SessionFault>
-    requires text { CommandHasText command.now }
-    requires alive { channel.old.has_failed ≡ false }
-    requires quiet { L.honest channel.old.link → IsQuiet L.Link in_session channel.old.link }
-    requires no_create { L.honest channel.old.link → (L.served channel.old.link).state.terms.sole ≡ false → MakesNothing command.now }
+    requires rest { IsAtRest L.Link in_session channel.old }
+    requires may { MayRun L.Link command.now channel.old.link }
 
-    ensures stays { Stays L.Link channel.old.link channel.new.link }
-    ensures quiet { failed_by result ≡ false → L.honest channel.new.link → IsQuiet L.Link in_session channel.new.link }
-    ensures tells { L.tells channel.old.link ↔ L.tells channel.new.link }
-    ensures counted { IsCounted (L.faults channel.old.link) (L.faults channel.new.link) result }
-    ensures alive { failed_by result ≡ false → channel.new.has_failed ≡ false }
+    ensures keeps { Keeps L.Link channel.old.link channel.new.link result }
+    ensures rest { failed_by result ≡ false → IsAtRest L.Link in_session channel.new }
     ensures room { length payload.old.bytes + payload.old.spare ≤ length payload.new.bytes + payload.new.spare }
     ensures fault { IfErr result IsOfStatement }
     ensures memory { 1001 ≤ length payload.old.bytes + payload.old.spare → length (command_text command.now) ≤ 1000 → result ≡ Err SessionFault.OutOfMemory → ⊥ }

@@ -1,11 +1,9 @@
 //! A session.
-ghost use Rattle.std.specs.Prelude.{◌≡◌, ◌↔◌, ◌≤◌, length, false, IfErr, MatchResult, Err};
+ghost use Rattle.std.specs.Prelude.{◌≡◌, false, MatchResult};
 ghost use Rattle.wire_forms.specs.Reading.{idle};
-ghost use Rattle.statement_forms.specs.Statement.{CommandHasText};
-ghost use Rattle.statement_forms.specs.Text.{command_text};
-ghost use Rattle.my_session.specs.InStep.{GreetingWaits, MakesNothing};
+ghost use Rattle.my_session.specs.InStep.{GreetingWaits, MayRun};
 ghost use Rattle.my_session.specs.Peer.{IsPeerOf};
-ghost use Rattle.my_session.specs.Session.{Closes, IsCounted, IsOfStatement, LoggedIn, LoginStopped, Runs, failed_by, wire_of};
+ghost use Rattle.my_session.specs.Session.{Closes, IsFree, KeepsServer, KeepsSession, LoggedIn, LoginStopped, RunFaults, Runs, reader_view, wire_of};
 
 use crate::channel::Channel;
 use crate::fault::SessionFault;
@@ -55,7 +53,8 @@ impl<L: Link> Session<L> {
     /// greeting offers that, and the response asks for it. A refusal gives the link back.
     /// `NotProtocol10` exactly where the server's first message begins with neither 10 nor 255, and
     /// `PluginUnsupported` exactly where the server asks for the login by another plugin; an ERR to
-    /// the login has the form CONNECT. (MySQL source documentation, "Connection Phase".)
+    /// the login has the form CONNECT. The condition is that the link is new, so that an honest server's
+    /// greeting waits on it. (MySQL source documentation, "Connection Phase".)
     pub fn login(
         alloc: Global,
         link: L,
@@ -64,9 +63,7 @@ impl<L: Link> Session<L> {
     ) -> Result<Session<L>, (L, SessionFault)>
         requires new_link { L.honest link → (L.served link).failed ≡ false → GreetingWaits L.Link link }
 
-        ensures honest { MatchResult result (λ session. L.honest link ↔ L.honest session.link) (λ gone. L.honest link ↔ L.honest gone.0) }
-        ensures origin { MatchResult result (λ session. L.same_origin link session.link) (λ gone. L.same_origin link gone.0) }
-        ensures terms { MatchResult result (λ session. L.honest link → (L.served session.link).state.terms ≡ (L.served link).state.terms) (λ gone. L.honest link → (L.served gone.0).state.terms ≡ (L.served link).state.terms) }
+        ensures server { MatchResult result (λ session. KeepsServer L.Link link session.link) (λ gone. KeepsServer L.Link link gone.0) }
         ensures logs_in { MatchResult result (λ session. LoggedIn L.Link user.now password.now link session) (λ gone. LoginStopped L.Link user.now password.now link gone.0 gone.1) }
     {
         let mut channel = Channel::new(alloc, link);
@@ -85,25 +82,17 @@ impl<L: Link> Session<L> {
     }
 
     /// Runs a command, whose reply is an OK or an ERR; a result set in reply is `Garbled`. The
-    /// conditions are that the session hasn't failed, that no rows are pending, and that the command
-    /// has a text. Where the text has at most 1,000 bytes it takes no memory. (MySQL source
-    /// documentation, `COM_QUERY`, `OK_Packet`, `ERR_Packet`.)
+    /// conditions are that the session hasn't failed, that no rows are pending, that the command has a
+    /// text, and that it makes no object unless an honest server is this link's alone. Where the text
+    /// has at most 1,000 bytes it takes no memory. (MySQL source documentation, `COM_QUERY`,
+    /// `OK_Packet`, `ERR_Packet`.)
     pub fn run(&mut self, command: &Command<'_>) -> Result<(), SessionFault>
-        requires text { CommandHasText command.now }
-        requires alive { self.old.has_failed ≡ false }
-        requires none_pending { self.old.pending.reading ≡ idle self.old.peer.ends }
-        requires no_create { L.honest self.old.link → (L.served self.old.link).state.terms.sole ≡ false → MakesNothing command.now }
+        requires free { IsFree (reader_view L.Link self.old) }
+        requires may { MayRun L.Link command.now self.old.link }
 
-        ensures honest { L.honest self.old.link ↔ L.honest self.new.link }
-        ensures origin { L.same_origin self.old.link self.new.link }
-        ensures terms { L.honest self.old.link → (L.served self.new.link).state.terms ≡ (L.served self.old.link).state.terms }
-        ensures tells { L.tells self.old.link ↔ L.tells self.new.link }
-        ensures counted { IsCounted (L.faults self.old.link) (L.faults self.new.link) result }
-        ensures failed { self.new.has_failed ≡ failed_by result }
-        ensures peer { self.new.peer ≡ self.old.peer }
+        ensures keeps { KeepsSession L.Link self.old self.new result }
         ensures pending { self.new.pending.reading ≡ idle self.new.peer.ends }
-        ensures fault { IfErr result IsOfStatement }
-        ensures memory { length (command_text command.now) ≤ 1000 → result ≡ Err SessionFault.OutOfMemory → ⊥ }
+        ensures fault { RunFaults command.now result }
         ensures runs { L.tells self.old.link → Runs command.now (wire_of L.Link self.old) result (wire_of L.Link self.new) }
     {
         match run_on(&mut self.channel, &mut self.payload, command) {
@@ -142,9 +131,7 @@ impl<L: Link> Session<L> {
     /// Ends the session, and gives its link back. Where the session hasn't failed it sends COM_QUIT,
     /// whatever comes of that. Takes no memory.
     pub fn close(self) -> L
-        ensures honest { L.honest self.link ↔ L.honest result }
-        ensures origin { L.same_origin self.link result }
-        ensures terms { L.honest self.link → (L.served result).state.terms ≡ (L.served self.link).state.terms }
+        ensures server { KeepsServer L.Link self.link result }
         ensures closes { Closes L.Link QUIT.now self result }
     {
         let Session {

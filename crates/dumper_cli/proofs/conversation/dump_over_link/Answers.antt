@@ -17,7 +17,7 @@ returns-clause-err g c = IfErr-weaker c.converse-shelf.result.1 _ _ (λ fault br
     c.converse-shelf.ensures.err
 
 pub returns-clause-honest : goal.returns-clause-honest
-returns-clause-honest g c = (λ h. c.close.ensures.honest.0 (c.converse-shelf.ensures.keeps.honest.0 (c.in-Ok.ensures.honest.0 h)), λ h. c.in-Ok.ensures.honest.1 (c.converse-shelf.ensures.keeps.honest.1 (c.close.ensures.honest.1 h)))
+returns-clause-honest g c = (λ h. c.close.ensures.server.honest.0 (c.converse-shelf.ensures.keeps.honest.0 (c.in-Ok.ensures.server.honest.0 h)), λ h. c.in-Ok.ensures.server.honest.1 (c.converse-shelf.ensures.keeps.honest.1 (c.close.ensures.server.honest.1 h)))
 
 pub returns-clause-origin : goal.returns-clause-origin
-returns-clause-origin g c = g.met.L.Link.origins_join c.args.link c.converse-shelf.new.session.link c.close.result (c.converse-shelf.ensures.keeps.origin c.args.link c.in-Ok.ensures.origin) c.close.ensures.origin
+returns-clause-origin g c = g.met.L.Link.origins_join c.args.link c.converse-shelf.new.session.link c.close.result (c.converse-shelf.ensures.keeps.origin c.args.link c.in-Ok.ensures.server.origin) c.close.ensures.server.origin

@@ -13,12 +13,12 @@ returns-in-Err-clause-err g c = λ t.
 pub returns-clause-server : goal.returns-clause-server
 returns-clause-server g c = λ h.
     subst (λ (p : Peer). IsPeerOf (g.L.Link.served c.respond.new.channel.link).state.terms.server p) (sym c.peer_of.ensures)
-    (still_peer g.L.Link c.hear_greeting.new.channel.link c.respond.new.channel.link (peer_of c.in-Ok.greeting) c.in_default.ensures.stays c.in-Ok.ensures.server h)
+    (still_peer g.L.Link c.hear_greeting.new.channel.link c.respond.new.channel.link (peer_of c.in-Ok.greeting) c.in_default.ensures.keeps.stays c.in-Ok.ensures.server h)
 
 pub returns-clause-ok : goal.returns-clause-ok
 returns-clause-ok g c = λ t.
-    greet_said c.args.user.now c.args.password.now (channel_wire g.L.Link c.args.channel.now) (channel_wire g.L.Link c.hear_greeting.new.channel) (channel_wire g.L.Link c.respond.new.channel) c.in-Ok.greeting (c.in-Ok.ensures.heard t) _ (c.as_ref.ensures.value ∙ c.password_answer-answer.ensures) c.peer_of.result c.peer_of.ensures (c.in_default.ensures.sent (c.in-Ok.ensures.tells.0 t))
+    greet_said c.args.user.now c.args.password.now (channel_wire g.L.Link c.args.channel.now) (channel_wire g.L.Link c.hear_greeting.new.channel) (channel_wire g.L.Link c.respond.new.channel) c.in-Ok.greeting (c.in-Ok.ensures.heard t) _ (c.as_ref.ensures.value ∙ c.password_answer-answer.ensures) c.peer_of.result c.peer_of.ensures (c.in_default.ensures.says.sent (c.in-Ok.ensures.keeps.tells.0 t))
 
 pub returns-in-Err-respond-clause-err : goal.returns-in-Err-respond-clause-err
 returns-in-Err-respond-clause-err g c = λ t.
-    greet_unsaid c.args.user.now c.args.password.now (channel_wire g.L.Link c.args.channel.now) (channel_wire g.L.Link c.hear_greeting.new.channel) (channel_wire g.L.Link c.respond.new.channel) c.in-Ok.greeting (c.in-Ok.ensures.heard t) _ (c.as_ref.ensures.value ∙ c.password_answer-answer.ensures) c.in-Err-respond.fault (c.in-Err-respond.ensures.err (c.in-Ok.ensures.tells.0 t))
+    greet_unsaid c.args.user.now c.args.password.now (channel_wire g.L.Link c.args.channel.now) (channel_wire g.L.Link c.hear_greeting.new.channel) (channel_wire g.L.Link c.respond.new.channel) c.in-Ok.greeting (c.in-Ok.ensures.heard t) _ (c.as_ref.ensures.value ∙ c.password_answer-answer.ensures) c.in-Err-respond.fault (c.in-Err-respond.ensures.err.unsaid (c.in-Ok.ensures.keeps.tells.0 t))

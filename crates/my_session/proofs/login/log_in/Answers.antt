@@ -5,21 +5,21 @@ use Rattle.my_session.proofs.login.log_in.Goals as goal
 
 pub returns-in-Err-be_accepted-clause-err : goal.returns-in-Err-be_accepted-clause-err
 returns-in-Err-be_accepted-clause-err g c = λ t.
-    c.in-Err-be_accepted.ensures.err (channel_wire g.L.Link c.args.channel.now) c.args.user.now c.in-Ok.peer (c.in-Ok.ensures.tells.0 t) (c.in-Ok.ensures.ok t)
+    c.in-Err-be_accepted.ensures.err (c.in-Ok.ensures.keeps.tells.0 t) (channel_wire g.L.Link c.args.channel.now) c.args.user.now c.in-Ok.peer (c.in-Ok.ensures.ok t)
 
 pub returns-in-Err-set_up-clause-err : goal.returns-in-Err-set_up-clause-err
 returns-in-Err-set_up-clause-err g c = λ t.
     let start = channel_wire g.L.Link c.args.channel.now in
-    let told = c.in-Ok.ensures.tells.0 t in
-    set_up_stops c.args.user.now c.args.password.now c.in-Ok.peer start (channel_wire g.L.Link c.be_accepted.new.channel) (channel_wire g.L.Link c.set_up.new.channel) (c.in_default.ensures.ok start c.args.user.now c.in-Ok.peer told (c.in-Ok.ensures.ok t)) c.in-Err-set_up.fault (c.in-Err-set_up.ensures.runs (c.in_default.ensures.tells.0 told))
+    let told = c.in-Ok.ensures.keeps.tells.0 t in
+    set_up_stops c.args.user.now c.args.password.now c.in-Ok.peer start (channel_wire g.L.Link c.be_accepted.new.channel) (channel_wire g.L.Link c.set_up.new.channel) (c.in_default.ensures.ok told start c.args.user.now c.in-Ok.peer (c.in-Ok.ensures.ok t)) c.in-Err-set_up.fault (c.in-Err-set_up.ensures.runs (c.in_default.ensures.keeps.tells.0 told))
 
 pub returns-clause-server : goal.returns-clause-server
 returns-clause-server g c = λ h.
-    still_peer g.L.Link c.be_accepted.new.channel.link c.set_up.new.channel.link c.in-Ok.peer c.in_default-set_up.ensures.stays
-    (still_peer g.L.Link c.greet.new.channel.link c.be_accepted.new.channel.link c.in-Ok.peer c.in_default.ensures.stays c.in-Ok.ensures.server) h
+    still_peer g.L.Link c.be_accepted.new.channel.link c.set_up.new.channel.link c.in-Ok.peer c.in_default-set_up.ensures.keeps.stays
+    (still_peer g.L.Link c.greet.new.channel.link c.be_accepted.new.channel.link c.in-Ok.peer c.in_default.ensures.keeps.stays c.in-Ok.ensures.server) h
 
 pub returns-clause-ok : goal.returns-clause-ok
 returns-clause-ok g c = λ t.
     let start = channel_wire g.L.Link c.args.channel.now in
-    let told = c.in-Ok.ensures.tells.0 t in
-    set_up_done c.args.user.now c.args.password.now c.in-Ok.peer start (channel_wire g.L.Link c.be_accepted.new.channel) (channel_wire g.L.Link c.set_up.new.channel) (c.in_default.ensures.ok start c.args.user.now c.in-Ok.peer told (c.in-Ok.ensures.ok t)) (c.in_default-set_up.ensures.runs (c.in_default.ensures.tells.0 told))
+    let told = c.in-Ok.ensures.keeps.tells.0 t in
+    set_up_done c.args.user.now c.args.password.now c.in-Ok.peer start (channel_wire g.L.Link c.be_accepted.new.channel) (channel_wire g.L.Link c.set_up.new.channel) (c.in_default.ensures.ok told start c.args.user.now c.in-Ok.peer (c.in-Ok.ensures.ok t)) (c.in_default-set_up.ensures.runs (c.in_default.ensures.keeps.tells.0 told))

@@ -6,7 +6,7 @@ use Rattle.my_session.proofs.login.respond.Goals as goal
 pub returns-clause-decision : goal.returns-clause-decision
 returns-clause-decision g c =
     let is = c.answer.ensures in
-    on_ok_weaker c.answer.result (λ replied h.
-    let before = is.stays.honest.1 h in
-    said_login g.L.Link c.args.channel.now.link c.answer.new.self.link c.answer.new.self.id greeted _ tt (c.requires.quiet before) (replied before))
-    is.replied
+    on_ok_weaker c.answer.result (λ says h.
+    let before = is.keeps.stays.honest.1 h in
+    said_login g.L.Link c.args.channel.now.link c.answer.new.self.link c.answer.new.self.id greeted _ tt (c.requires.quiet before) (says.replied before))
+    is.ok

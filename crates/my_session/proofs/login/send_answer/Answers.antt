@@ -6,15 +6,15 @@ use Rattle.my_session.proofs.login.send_answer.Goals as goal
 pub returns-in-Some-clause-decision : goal.returns-in-Some-clause-decision
 returns-in-Some-clause-decision g c =
     let is = c.answer.ensures in
-    on_ok_weaker c.answer.result (λ replied h.
-    let before = is.stays.honest.1 h in
-    said_login g.L.Link c.args.channel.now.link c.answer.new.self.link c.answer.new.self.id switching _ tt (c.requires.quiet before) (replied before))
-    is.replied
+    on_ok_weaker c.answer.result (λ says h.
+    let before = is.keeps.stays.honest.1 h in
+    said_login g.L.Link c.args.channel.now.link c.answer.new.self.link c.answer.new.self.id switching _ tt (c.requires.quiet before) (says.replied before))
+    is.ok
 
 pub returns-in-None-clause-decision : goal.returns-in-None-clause-decision
 returns-in-None-clause-decision g c =
     let is = c.answer-in-None.ensures in
-    on_ok_weaker c.answer-in-None.result (λ replied h.
-    let before = is.stays.honest.1 h in
-    said_login g.L.Link c.args.channel.now.link c.answer-in-None.new.self.link c.answer-in-None.new.self.id switching _ tt (c.requires.quiet before) (replied before))
-    is.replied
+    on_ok_weaker c.answer-in-None.result (λ says h.
+    let before = is.keeps.stays.honest.1 h in
+    said_login g.L.Link c.args.channel.now.link c.answer-in-None.new.self.link c.answer-in-None.new.self.id switching _ tt (c.requires.quiet before) (says.replied before))
+    is.ok

@@ -1,4 +1,4 @@
-use Rattle.std.proofs.Common.{refl}
+use Rattle.std.proofs.Common.{refl, rules}
 use Rattle.statement_forms.specs.declared.command.Command.TheVariants.{SetUp}
 use Rattle.my_session.specs.Channel.{channel_wire}
 use Rattle.my_session.specs.declared.fault.SessionFault.TheVariants.{OutOfMemory}
@@ -6,8 +6,11 @@ use Rattle.my_session.proofs.Running.{run_unwritten}
 use Rattle.my_session.proofs.Uncreating.{makes_nothing}
 use Rattle.my_session.proofs.login.set_up.Goals as goal
 
-pub run_on-requires-clause-no_create : goal.run_on-requires-clause-no_create
-run_on-requires-clause-no_create g c = λ h sole. makes_nothing SetUp tt (λ e. cc)
+pub run_on-requires-clause-may : goal.run_on-requires-clause-may
+run_on-requires-clause-may g c = record {
+  text = search rules;
+  no_create = λ h sole. makes_nothing SetUp tt (λ e. cc);
+}
 
 pub returns-then-is_err-clause-runs : goal.returns-then-is_err-clause-runs
 returns-then-is_err-clause-runs g c = λ t.

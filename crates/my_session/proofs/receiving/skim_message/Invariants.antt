@@ -1,10 +1,11 @@
 use Rattle.std.proofs.Common.{◌≤◌, ◌-◌, ◌^◌}
-use Rattle.my_session.specs.Receiving.{Drains}
+use Rattle.my_session.specs.Channel.{link_at}
+use Rattle.my_session.specs.Receiving.{Drains, skimmer_at}
 use Rattle.my_session.proofs.receiving.skim_message.Given as goal
 
 abbrev pub invariant-pieces : goal.invariant-pieces
 invariant-pieces g l = record {
-  drains : Drains g.L.Link l.fn.link l.link l.fn.id l.skim l.fn.taken l.taken;
+  drains : Drains g.L.Link (link_at l.fn.link l.fn.taken l.fn.id) (skimmer_at l.link l.skim l.taken);
   within : l.taken ≤ 2 ^ 62;
 }
 

@@ -1,4 +1,4 @@
-use Rattle.std.proofs.Common.{arith, refl, sym, subst, ap, ◌∙◌, ◌-◌}
+use Rattle.std.proofs.Common.{arith, sym, subst, ap, ◌∙◌, ◌-◌}
 use Rattle.wire_forms.specs.Reading.{Reading}
 use Rattle.my_session.specs.Channel.{channel_wire}
 use Rattle.my_session.specs.Statements.{IsDescribed}
@@ -7,8 +7,8 @@ use Rattle.my_session.proofs.Querying.{definition_halts, described_next, at_rows
 use Rattle.my_session.proofs.Staying.{stays_on}
 use Rattle.my_session.proofs.rows.describe.Goals as goal
 
-pub returns-in-Err-clause-err : goal.returns-in-Err-clause-err
-returns-in-Err-clause-err g c = λ start t takes.
+pub returns-in-Err-clause-describes : goal.returns-in-Err-clause-describes
+returns-in-Err-clause-describes g c = λ t start takes.
     let here = c.definitions.invariant in
     definition_halts c.args.ends c.args.query.now start (channel_wire g.L.Link c.definitions.channel) (channel_wire g.L.Link c.hear_definition.new.channel) c.definitions.reader (here.described start t takes) c.form-form.result c.in-Err.fault here.ends c.form-form.ensures (c.in-Err.ensures.err (here.tells.0 t))
 
@@ -17,14 +17,14 @@ definitions-preserved g c =
     let here = c.definitions.invariant in
     let is = c.in_default.ensures in
     let once = here.later in
-    let now = is.counted.later in
+    let now = is.keeps.counted.later in
     let left = here.awaited in
     record {
-      stays = stays_on g.L.Link g.met.L.Link.origins_join c.args.channel.now.link c.definitions.channel.link c.hear_definition.new.channel.link here.stays is.stays;
-      rest = is.rest;
-      tells = (λ t. is.tells.0 (here.tells.0 t), λ t. here.tells.1 (is.tells.1 t));
+      stays = stays_on g.L.Link g.met.L.Link.origins_join c.args.channel.now.link c.definitions.channel.link c.hear_definition.new.channel.link here.stays is.keeps.stays;
+      rest = is.rest.rest;
+      tells = (λ t. is.keeps.tells.0 (here.tells.0 t), λ t. here.tells.1 (is.keeps.tells.1 t));
       later = omega arith;
-      alive = is.alive refl;
+      alive = is.rest.alive;
       ends = ap (λ (r : Reading). r.ends) is.reader ∙ here.ends;
       columns = ap (λ (r : Reading). r.columns) is.reader ∙ here.columns;
       awaited = ap (λ (r : Reading). r.awaited) is.reader ∙ ap (λ n. n - 1) left;
@@ -33,8 +33,8 @@ definitions-preserved g c =
           (described_next c.args.ends c.args.query.now start (channel_wire g.L.Link c.definitions.channel) (channel_wire g.L.Link c.hear_definition.new.channel) c.definitions.reader (here.described start t takes) (is.heard (here.tells.0 t)));
     }
 
-pub returns-clause-ok : goal.returns-clause-ok
-returns-clause-ok g c = λ start t takes.
+pub returns-clause-describes : goal.returns-clause-describes
+returns-clause-describes g c = λ t start takes.
     let here = c.definitions.invariant in
     let left = here.awaited in
     let ended = c.definitions-test.false in

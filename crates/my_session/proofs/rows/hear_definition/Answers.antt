@@ -1,13 +1,16 @@
-use Rattle.std.proofs.Common.{ℕ, List, sym, ◌∙◌, ap}
+use Rattle.std.proofs.Common.{ℕ, List, sym, ◌∙◌, ap, rules}
 use Rattle.wire_forms.specs.Reading.{further_of}
 use Rattle.my_session.proofs.Stepping.{rest_comes, definition_heard}
 use Rattle.my_session.proofs.rows.hear_definition.Goals as goal
 
 pub hear-requires-clause-waits : goal.hear-requires-clause-waits
-hear-requires-clause-waits g c = λ serving. rest_comes g.L.Link c.args.channel.now.link c.args.channel.now.id c.args.reader.now c.requires.pending (c.requires.rest serving.honest)
+hear-requires-clause-waits g c = λ serving. rest_comes g.L.Link c.args.channel.now.link c.args.channel.now.id c.args.reader.now c.requires.awaits.pending (c.requires.rest.rest serving.honest)
 
 pub returns-then-is_definition-clause-rest : goal.returns-then-is_definition-clause-rest
 returns-then-is_definition-clause-rest g c =
     let is = c.if-is_definition.ensures in
-    definition_heard g.L.Link c.args.channel.now.link c.hear.new.self.link c.args.channel.now.id c.hear.new.self.id c.args.reader.now c.hear.new.self.message c.hear.ensures.stays c.requires.pending c.requires.rest c.in_default.ensures.delivers c.is_definition.new.reader is.after
-    (ap (λ (l : List ℕ). further_of c.args.reader.now l) (sym c.message.ensures.payload) ∙ is.turn)
+    record {
+      alive = search rules;
+      rest = definition_heard g.L.Link c.args.channel.now.link c.hear.new.self.link c.args.channel.now.id c.hear.new.self.id c.args.reader.now c.hear.new.self.message c.hear.ensures.keeps.stays c.requires.awaits.pending c.requires.rest.rest c.in_default.ensures.ok.delivers c.is_definition.new.reader is.after
+          (ap (λ (l : List ℕ). further_of c.args.reader.now l) (sym c.message.ensures.payload) ∙ is.turn);
+    }

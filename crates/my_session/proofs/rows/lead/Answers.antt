@@ -1,4 +1,4 @@
-use Rattle.std.proofs.Common.{sym}
+use Rattle.std.proofs.Common.{sym, rules}
 use Rattle.statement_forms.specs.declared.command.Command.TheVariants.{Use}
 use Rattle.my_session.specs.Channel.{channel_wire}
 use Rattle.my_session.proofs.Querying.{led, not_led, takes_no_lead}
@@ -6,8 +6,11 @@ use Rattle.my_session.proofs.Running.{ok_where, err_where}
 use Rattle.my_session.proofs.Uncreating.{makes_nothing}
 use Rattle.my_session.proofs.rows.lead.Goals as goal
 
-pub run_on-requires-clause-no_create : goal.run_on-requires-clause-no_create
-run_on-requires-clause-no_create g c = λ h sole. makes_nothing (Use c.of.result) tt (λ e. cc)
+pub run_on-requires-clause-may : goal.run_on-requires-clause-may
+run_on-requires-clause-may g c = record {
+  text = search rules;
+  no_create = λ h sole. makes_nothing (Use c.of.result) tt (λ e. cc);
+}
 
 pub returns-in-Some-clause-ok : goal.returns-in-Some-clause-ok
 returns-in-Some-clause-ok g c =

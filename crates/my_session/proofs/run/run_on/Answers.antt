@@ -1,4 +1,4 @@
-use Rattle.std.proofs.Common.{◌∙◌}
+use Rattle.std.proofs.Common.{◌∙◌, rules}
 use Rattle.std.proofs.lemmas.Result.{on_ok_weaker, IfErr-weaker}
 use Rattle.my_session.specs.Channel.{channel_wire}
 use Rattle.my_session.proofs.Running.{run_unwritten, run_unsaid, runs_by}
@@ -7,27 +7,38 @@ use Rattle.my_session.proofs.Uncreating.{says_nothing}
 use Rattle.statement_forms.specs.Text.{command_text}
 use Rattle.my_session.proofs.run.run_on.Goals as goal
 
-pub say-requires-clause-no_create : goal.say-requires-clause-no_create
-say-requires-clause-no_create g c = λ h phase sole.
-    says_nothing c.as_slice.result.now (command_text c.args.command.now) (c.as_slice.ensures ∙ c.in_default.ensures.bytes) (c.requires.no_create h sole)
+pub say-requires-clause-may : goal.say-requires-clause-may
+say-requires-clause-may g c = λ h. record {
+  begins = search rules;
+  no_create = λ phase sole.
+      says_nothing c.as_slice.result.now (command_text c.args.command.now) (c.as_slice.ensures ∙ c.in_default.ensures.bytes) (c.requires.may.no_create h sole);
+}
 
-pub hear_done-requires-clause-waits : goal.hear_done-requires-clause-waits
-hear_done-requires-clause-waits g c = λ serving.
-    let is = c.in_default-say.ensures in
-    let before = is.stays.honest.1 serving.honest in
-    reply_comes g.L.Link c.say.new.self.link c.say.new.self.id
-    (said_text g.L.Link c.args.channel.now.link c.say.new.self.link c.say.new.self.id (command_text c.args.command.now) c.as_slice.result.now (c.as_slice.ensures ∙ c.in_default.ensures.bytes) (c.requires.quiet before) (is.replied before))
+pub hear_done-requires : goal.hear_done-requires
+hear_done-requires g c = record {
+  awaits = record {
+    alive = search rules;
+    waits = λ serving.
+        let is = c.in_default-say.ensures in
+        let before = is.keeps.stays.honest.1 serving.honest in
+        reply_comes g.L.Link c.say.new.self.link c.say.new.self.id
+        (said_text g.L.Link c.args.channel.now.link c.say.new.self.link c.say.new.self.id (command_text c.args.command.now) c.as_slice.result.now (c.as_slice.ensures ∙ c.in_default.ensures.bytes) (c.requires.rest.quiet before) (is.ok.replied before));
+  };
+}
 
-pub returns-clause-quiet : goal.returns-clause-quiet
-returns-clause-quiet g c = λ goes_on h.
-    let is = c.in_default-say.ensures in
-    let heard = c.hear_done.ensures in
-    let middle = heard.stays.honest.1 h in
-    let before = is.stays.honest.1 middle in
-    let replied = is.replied before in
-    answered g.L.Link c.say.new.self.link c.hear_done.new.channel.link c.say.new.self.id c.hear_done.new.channel.id (record { honest = middle; alive = replied.alive })
-    (said_text g.L.Link c.args.channel.now.link c.say.new.self.link c.say.new.self.id (command_text c.args.command.now) c.as_slice.result.now (c.as_slice.ensures ∙ c.in_default.ensures.bytes) (c.requires.quiet before) replied)
-    c.hear_done.result heard.done heard.refusal goes_on
+pub returns-clause-rest : goal.returns-clause-rest
+returns-clause-rest g c = λ goes_on. record {
+  alive = c.hear_done.ensures.alive goes_on;
+  quiet = λ h.
+      let is = c.in_default-say.ensures in
+      let heard = c.hear_done.ensures in
+      let middle = heard.keeps.stays.honest.1 h in
+      let before = is.keeps.stays.honest.1 middle in
+      let replied = is.ok.replied before in
+      answered g.L.Link c.say.new.self.link c.hear_done.new.channel.link c.say.new.self.id c.hear_done.new.channel.id (record { honest = middle; alive = replied.alive })
+      (said_text g.L.Link c.args.channel.now.link c.say.new.self.link c.say.new.self.id (command_text c.args.command.now) c.as_slice.result.now (c.as_slice.ensures ∙ c.in_default.ensures.bytes) (c.requires.rest.quiet before) replied)
+      c.hear_done.result heard.done heard.refusal goes_on;
+}
 
 pub returns-in-Err-clause-runs : goal.returns-in-Err-clause-runs
 returns-in-Err-clause-runs g c = λ t.
@@ -36,11 +47,11 @@ returns-in-Err-clause-runs g c = λ t.
 
 pub returns-in-Err-say-clause-runs : goal.returns-in-Err-say-clause-runs
 returns-in-Err-say-clause-runs g c = λ t.
-    run_unsaid c.args.command.now (channel_wire g.L.Link c.args.channel.now) (channel_wire g.L.Link c.say.new.self) c.as_slice.result.now c.in-Err-say.fault (c.as_slice.ensures ∙ c.in_default.ensures.bytes) (c.in-Err-say.ensures.err t)
+    run_unsaid c.args.command.now (channel_wire g.L.Link c.args.channel.now) (channel_wire g.L.Link c.say.new.self) c.as_slice.result.now c.in-Err-say.fault (c.as_slice.ensures ∙ c.in_default.ensures.bytes) (c.in-Err-say.ensures.err.unsaid t)
 
 pub returns-clause-runs : goal.returns-clause-runs
 returns-clause-runs g c = λ t.
-    let told = c.in_default-say.ensures.tells.0 t in
-    runs_by c.args.command.now (channel_wire g.L.Link c.args.channel.now) (channel_wire g.L.Link c.hear_done.new.channel) c.as_slice.result.now (channel_wire g.L.Link c.say.new.self) (c.as_slice.ensures ∙ c.in_default.ensures.bytes) (c.in_default-say.ensures.sent t) c.form.result c.hear_done.result c.form.ensures
+    let told = c.in_default-say.ensures.keeps.tells.0 t in
+    runs_by c.args.command.now (channel_wire g.L.Link c.args.channel.now) (channel_wire g.L.Link c.hear_done.new.channel) c.as_slice.result.now (channel_wire g.L.Link c.say.new.self) (c.as_slice.ensures ∙ c.in_default.ensures.bytes) (c.in_default-say.ensures.ok.sent t) c.form.result c.hear_done.result c.form.ensures
     (on_ok_weaker c.hear_done.result (λ heard. heard told) c.hear_done.ensures.heard)
     (IfErr-weaker c.hear_done.result _ _ (λ fault halts. halts told) c.hear_done.ensures.err)
