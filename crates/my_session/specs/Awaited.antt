@@ -75,4 +75,5 @@ fault_at greeting place message = greeting_fault place (greeting_of message)
 fault_at decision place message = decision_fault place message (reply_of message)
 fault_at (done form) place message = done_fault form place (reply_of message)
 fault_at (count form) place message = count_fault form place (reply_of message)
-fault_at (further form reading) place message = further_fault form place (further_of reading message)
+fault_at (further form reading) place message =
+    further_fault form place (further_of reading message)

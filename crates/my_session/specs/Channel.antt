@@ -77,6 +77,17 @@ abbrev pub packets_within : ℕ → ℕ
 packets_within bytes = (bytes - 4) / 16777219 + 1
 
 module _ {L : Type 0} (of : Ghosts L) where
+  -- where the link tells, this holds of what goes over the channel before and after
+  abbrev pub WhereTold : (Wire → Wire → Type 0) → ChannelView L → ChannelView L → Type 0
+  WhereTold Holds old new = of.tells old.link → Holds (channel_wire of old) (channel_wire of new)
+
+  -- where the link tells, this holds of a fault and of what goes over the channel before and after
+  abbrev pub FaultWhereTold : (Wire → SessionFault → Wire → Type 0) → ChannelView L →
+      ChannelView L →
+      SessionFault → Type 0
+  FaultWhereTold Holds old new fault =
+      of.tells old.link → Holds (channel_wire of old) fault (channel_wire of new)
+
   -- packets were sent as one message: an honest server has answered them, and what is still to be heard is the same
   pub record SendsPackets (packets : List ℕ) (old new : L) : Type 0 where
     pub alive : of.honest old → (of.served old).failed ≡ false
@@ -85,7 +96,8 @@ module _ {L : Type 0} (of : Ghosts L) where
     pub stream : of.tells old → stream (of.told new) ≡ stream (of.told old)
 
   -- nothing was sent, for one of these reasons
-  pub record SendsNone (IsReason : SessionFault → Type 0) (old new : L) (fault : SessionFault) : Type 0 where
+  pub record SendsNone (IsReason : SessionFault → Type 0) (old new : L)
+      (fault : SessionFault) : Type 0 where
     pub kind : IsReason fault
     pub silent : of.tells old → (of.told new).sent ≡ (of.told old).sent
 
@@ -95,9 +107,11 @@ module _ {L : Type 0} (of : Ghosts L) where
     pub sent : of.tells old.link → Sent id payload (channel_wire of old) (channel_wire of new)
 
   -- why a payload wasn't sent, and that nothing of it was
-  pub record SaysNone (payload : List ℕ) (old new : ChannelView L) (fault : SessionFault) : Type 0 where
+  pub record SaysNone (payload : List ℕ) (old new : ChannelView L)
+      (fault : SessionFault) : Type 0 where
     pub kind : IsOfChannel fault
-    pub unsaid : of.tells old.link → Unsaid payload (channel_wire of old) fault (channel_wire of new)
+    pub unsaid : of.tells old.link →
+        Unsaid payload (channel_wire of old) fault (channel_wire of new)
 
   -- the next message was taken off a link, and nothing else
   pub record HearsNext (message : List ℕ) (old new : LinkAt L) : Type 0 where
@@ -113,7 +127,8 @@ module _ {L : Type 0} (of : Ghosts L) where
 
   -- the next message was taken off a link up to this place, and the next packet has the id after its packets
   abbrev pub SkimsTo : SkimmedView → LinkAt L → L → ℕ → Type 0
-  SkimsTo skim old link place = SkimsNext skim old (link_at link place (id_after (packets_within (place - old.place)) old.id))
+  SkimsTo skim old link place =
+      SkimsNext skim old (link_at link place (id_after (packets_within (place - old.place)) old.id))
 
   -- why the next message wasn't heard
   pub record HearsNone (old new : LinkAt L) (fault : SessionFault) : Type 0 where

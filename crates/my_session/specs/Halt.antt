@@ -57,12 +57,16 @@ Unsaid payload old (Refused form refusal) new = ⊥
 Unsaid payload old (Garbled place) new = ⊥
 Unsaid payload old (NotProtocol10 version) new = ⊥
 Unsaid payload old (PluginUnsupported name) new = ⊥
-Unsaid payload old (TooLong size) new = (size ≡ length payload) × (MESSAGE_LIMIT < size) × Silent old new
+Unsaid payload old (TooLong size) new =
+    (size ≡ length payload) × (MESSAGE_LIMIT < size) × Silent old new
 Unsaid payload old StreamTooLong new = ⊥
 Unsaid payload old OutOfMemory new = Silent old new
 
 -- a conversation stopped after some of its steps, where the first relation says after which steps it awaits what, and the
 -- second after which it sends what
-pub data Stops (Awaits : List Step → Awaited → Type 0) (Sends : List Step → List ℕ → Type 0) (old : Wire) (fault : SessionFault) (new : Wire) : Type 0 where
-  at_message : {steps : List Step} {awaited : Awaited} {middle : Wire} → Awaits steps awaited → Leads steps old middle → Halts awaited middle fault new → Stops Awaits Sends old fault new
-  at_payload : {steps : List Step} {payload : List ℕ} {middle : Wire} → Sends steps payload → Leads steps old middle → Unsaid payload middle fault new → Stops Awaits Sends old fault new
+pub data Stops (Awaits : List Step → Awaited → Type 0) (Sends : List Step → List ℕ → Type 0)
+    (old : Wire) (fault : SessionFault) (new : Wire) : Type 0 where
+  at_message : {steps : List Step} {awaited : Awaited} {middle : Wire} → Awaits steps awaited →
+      Leads steps old middle → Halts awaited middle fault new → Stops Awaits Sends old fault new
+  at_payload : {steps : List Step} {payload : List ℕ} {middle : Wire} → Sends steps payload →
+      Leads steps old middle → Unsaid payload middle fault new → Stops Awaits Sends old fault new

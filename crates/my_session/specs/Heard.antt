@@ -54,7 +54,8 @@ pub record HearsGreeting (found : Greeting) (old new : Wire) : Type 0 where
 -- what a message decides of a login
 abbrev pub IsDecision : Decision → List ℕ → Type 0
 IsDecision Accepted message = reply_of message ≡ Some Done
-IsDecision (Switched found) message = (fault_at decision 0 message ≡ None) × (switch_of message ≡ Ok found)
+IsDecision (Switched found) message =
+    (fault_at decision 0 message ≡ None) × (switch_of message ≡ Ok found)
 
 -- a decision was heard
 pub record HearsDecision (found : Decision) (old new : Wire) : Type 0 where
@@ -63,7 +64,8 @@ pub record HearsDecision (found : Decision) (old new : Wire) : Type 0 where
   pub is : IsDecision found message
 
 -- the server asked for an answer over the scramble of this request
-pub record IsAskedToSwitch (user password : List ℕ) (peer : Peer) (found : Switch) (steps : List Step) : Type 0 where
+pub record IsAskedToSwitch (user password : List ℕ) (peer : Peer) (found : Switch)
+    (steps : List Step) : Type 0 where
   pub before : List Step
   pub greeted : IsGreeted user password peer before
   pub message : List ℕ
@@ -73,23 +75,34 @@ pub record IsAskedToSwitch (user password : List ℕ) (peer : Peer) (found : Swi
 
 -- a login stops
 abbrev pub LoginStops : List ℕ → List ℕ → Wire → SessionFault → Wire → Type 0
-LoginStops user password old fault new = Stops (LoginAwaits user password) (LoginSends user password) old fault new
+LoginStops user password old fault new =
+    Stops (LoginAwaits user password) (LoginSends user password) old fault new
 
 -- a login that was asked to switch is accepted
 abbrev pub AcceptsSwitched : List ℕ → Switch → Wire → Wire → Type 0
-AcceptsSwitched password found old new = (start : Wire) (user : List ℕ) (peer : Peer) → Takes (IsAskedToSwitch user password peer found) start old → Takes (IsAccepted user password peer) start new
+AcceptsSwitched password found old new =
+    (start : Wire) (user : List ℕ) (peer : Peer) →
+    Takes (IsAskedToSwitch user password peer found) start old →
+    Takes (IsAccepted user password peer) start new
 
 -- a login that was asked to switch stops
 abbrev pub StopsSwitched : List ℕ → Switch → Wire → SessionFault → Wire → Type 0
-StopsSwitched password found old fault new = (start : Wire) (user : List ℕ) (peer : Peer) → Takes (IsAskedToSwitch user password peer found) start old → LoginStops user password start fault new
+StopsSwitched password found old fault new =
+    (start : Wire) (user : List ℕ) (peer : Peer) →
+    Takes (IsAskedToSwitch user password peer found) start old →
+    LoginStops user password start fault new
 
 -- a login that has answered the greeting is accepted
 abbrev pub AcceptsGreeted : List ℕ → Wire → Wire → Type 0
-AcceptsGreeted password old new = (start : Wire) (user : List ℕ) (peer : Peer) → Takes (IsGreeted user password peer) start old → Takes (IsAccepted user password peer) start new
+AcceptsGreeted password old new =
+    (start : Wire) (user : List ℕ) (peer : Peer) → Takes (IsGreeted user password peer) start old →
+    Takes (IsAccepted user password peer) start new
 
 -- a login that has answered the greeting stops
 abbrev pub StopsGreeted : List ℕ → Wire → SessionFault → Wire → Type 0
-StopsGreeted password old fault new = (start : Wire) (user : List ℕ) (peer : Peer) → Takes (IsGreeted user password peer) start old → LoginStops user password start fault new
+StopsGreeted password old fault new =
+    (start : Wire) (user : List ℕ) (peer : Peer) → Takes (IsGreeted user password peer) start old →
+    LoginStops user password start fault new
 
 -- one of the messages before the rows was heard: a column definition, or the EOF after the definitions
 pub record HearsDefinition (reading : Reading) (old new : Wire) : Type 0 where
@@ -111,4 +124,5 @@ IsAfterRow ends old message false new = (further_of old message ≡ end) × (new
 -- what is answered to a message in the place of a row, which began at this place, and where the reader is after it
 abbrev pub Judges : Ends → Reading → Form → List ℕ → ℕ → Result Bool SessionFault → Reading → Type 0
 Judges ends old form message place (Ok is_row) new = IsAfterRow ends old message is_row new
-Judges ends old form message place (Err fault) new = (further_fault form place (further_of old message) ≡ Some fault) × (new ≡ idle ends)
+Judges ends old form message place (Err fault) new =
+    (further_fault form place (further_of old message) ≡ Some fault) × (new ≡ idle ends)

@@ -28,10 +28,16 @@ use Rattle.my_session.specs.declared.login.Decision.TheVariants.{Accepted, Switc
 
 -- the messages are the rest of a result set for a reader that is here: those before the rows, rows, and the end or an ERR
 pub data Completes : Reading → List (List ℕ) → Type 0 where
-  ends : {reading : Reading} {message : List ℕ} → further_of reading message ≡ end → Completes reading (message ∷ [])
-  breaks_off : {reading : Reading} {message : List ℕ} {refusal : Refusal} → further_of reading message ≡ refused refusal → Completes reading (message ∷ [])
-  defines : {reading : Reading} {message : List ℕ} {messages : List (List ℕ)} → further_of reading message ≡ definition → Completes (reading_after reading definition) messages → Completes reading (message ∷ messages)
-  has_row : {reading : Reading} {message : List ℕ} {messages : List (List ℕ)} {cells : List Cell} → further_of reading message ≡ row cells → Completes reading messages → Completes reading (message ∷ messages)
+  ends : {reading : Reading} {message : List ℕ} → further_of reading message ≡ end →
+      Completes reading (message ∷ [])
+  breaks_off : {reading : Reading} {message : List ℕ} {refusal : Refusal} →
+      further_of reading message ≡ refused refusal → Completes reading (message ∷ [])
+  defines : {reading : Reading} {message : List ℕ} {messages : List (List ℕ)} →
+      further_of reading message ≡ definition →
+      Completes (reading_after reading definition) messages → Completes reading (message ∷ messages)
+  has_row : {reading : Reading} {message : List ℕ} {messages : List (List ℕ)} {cells : List Cell} →
+      further_of reading message ≡ row cells → Completes reading messages →
+      Completes reading (message ∷ messages)
 
 -- the packets of the rest of a result set wait, from this id on
 pub record WaitsRest (reading : Reading) (id : ℕ) (waiting : List ℕ) : Type 0 where
@@ -91,7 +97,8 @@ module _ {L : Type 0} (of : Ghosts L) where
     pub alive : (of.served link).failed ≡ false
     pub message : List ℕ
     pub accepted : reply_of message ≡ Some Done → (of.served link).state.phase ≡ in_session
-    pub switched : (found : Switch) → switch_of message ≡ Ok found → (of.served link).state.phase ≡ switching
+    pub switched : (found : Switch) → switch_of message ≡ Ok found →
+        (of.served link).state.phase ≡ switching
     pub waits : (of.served link).waiting ≡ packets_from id (message ∷ [])
 
   -- a reply waits in an open session, from this id on
@@ -111,8 +118,10 @@ module _ {L : Type 0} (of : Ghosts L) where
 
   -- a session is in step with an honest server: the server is what its greeting said, and the link is open as long as the session hasn't failed
   pub record IsInStep (session : SessionView L) : Type 0 where
-    pub peer : of.honest session.link → IsPeerOf (of.served session.link).state.terms.server session.peer
-    pub is_open : of.honest session.link → session.has_failed ≡ false → IsOpen session.link session.id session.pending.reading
+    pub peer : of.honest session.link →
+        IsPeerOf (of.served session.link).state.terms.server session.peer
+    pub is_open : of.honest session.link → session.has_failed ≡ false →
+        IsOpen session.link session.id session.pending.reading
 
   -- a link on which the greeting waits, and nothing else
   pub record GreetingWaits (link : L) : Type 0 where
@@ -129,7 +138,8 @@ module _ {L : Type 0} (of : Ghosts L) where
 
   -- an honest server's message was taken off the channel that is this reply's first, or spells none
   abbrev pub ServesReply : Option Reply → ChannelView L → ChannelView L → Type 0
-  ServesReply reply old new = IsServing of old.link → DeliversReply of reply old.link old.id new.link new.id
+  ServesReply reply old new =
+      IsServing of old.link → DeliversReply of reply old.link old.id new.link new.id
 
   -- an honest server's ERR was
   abbrev pub ServesRefusal : ChannelView L → ChannelView L → Type 0
@@ -161,14 +171,16 @@ module _ {L : Type 0} (of : Ghosts L) where
     pub server : of.honest link → ends ≡ (of.served link).state.terms.server.ends
 
   -- the number of columns was heard, from 1 to 65,535, and the messages before the rows come next
-  pub record HasCounted (ends : Ends) (columns : ℕ) (channel : ChannelView L) (reading : Reading) : Type 0 where
+  pub record HasCounted (ends : Ends) (columns : ℕ) (channel : ChannelView L)
+      (reading : Reading) : Type 0 where
     pub some : 0 < columns
     pub few : columns < 65536
     pub reader : reading ≡ columns_counted ends columns
     pub rest : AwaitsRest channel (columns_counted ends columns)
 
   -- the messages before the rows were heard, and the rows come next
-  pub record HasOpened (ends : Ends) (columns : ℕ) (channel : ChannelView L) (reading : Reading) : Type 0 where
+  pub record HasOpened (ends : Ends) (columns : ℕ) (channel : ChannelView L)
+      (reading : Reading) : Type 0 where
     pub some : 0 < columns
     pub reader : reading ≡ rows_of ends columns
     pub rest : AwaitsRest channel (rows_of ends columns)
@@ -181,4 +193,5 @@ module _ {L : Type 0} (of : Ghosts L) where
   -- the command may be run over the link: it has a text, and makes no object unless the server is the link's alone
   pub record MayRun (command : Command) (link : L) : Type 0 where
     pub text : CommandHasText command
-    pub no_create : of.honest link → (of.served link).state.terms.sole ≡ false → MakesNothing command
+    pub no_create : of.honest link → (of.served link).state.terms.sole ≡ false →
+        MakesNothing command

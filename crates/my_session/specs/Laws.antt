@@ -7,14 +7,19 @@ use Rattle.my_session.specs.declared.limits.TheConstants.{MESSAGE_LIMIT, SESSION
 
 -- of a message, a packet out of order, one past the limit, and 2^62 bytes before its end, no two come next; the message and the length are one each
 pub record HasOneNext (wire : Wire) : Type 0 where
-  pub one_message : (message other : List ℕ) (new also : Wire) → Hears message wire new → Hears other wire also → (message ≡ other) × (new ≡ also)
-  pub message_in_order : (message : List ℕ) (new : Wire) → Hears message wire new → ¬ OutOfOrder wire
-  pub message_is_short : (message : List ℕ) (new : Wire) (size : ℕ) → Hears message wire new → ¬ IsTooLong MESSAGE_LIMIT wire.id size (within wire)
+  pub one_message : (message other : List ℕ) (new also : Wire) → Hears message wire new →
+      Hears other wire also → (message ≡ other) × (new ≡ also)
+  pub message_in_order : (message : List ℕ) (new : Wire) → Hears message wire new →
+      ¬ OutOfOrder wire
+  pub message_is_short : (message : List ℕ) (new : Wire) (size : ℕ) → Hears message wire new →
+      ¬ IsTooLong MESSAGE_LIMIT wire.id size (within wire)
   pub message_ends : (message : List ℕ) (new : Wire) → Hears message wire new → ¬ IsFull wire
-  pub disorder_is_not_long : (size : ℕ) → OutOfOrder wire → ¬ IsTooLong MESSAGE_LIMIT wire.id size (within wire)
+  pub disorder_is_not_long : (size : ℕ) → OutOfOrder wire →
+      ¬ IsTooLong MESSAGE_LIMIT wire.id size (within wire)
   pub disorder_ends : OutOfOrder wire → ¬ IsFull wire
   pub long_ends : (size : ℕ) → IsTooLong MESSAGE_LIMIT wire.id size (within wire) → ¬ IsFull wire
-  pub one_size : (size other : ℕ) → IsTooLong MESSAGE_LIMIT wire.id size (within wire) → IsTooLong MESSAGE_LIMIT wire.id other (within wire) → size ≡ other
+  pub one_size : (size other : ℕ) → IsTooLong MESSAGE_LIMIT wire.id size (within wire) →
+      IsTooLong MESSAGE_LIMIT wire.id other (within wire) → size ≡ other
 
 -- what comes next on a wire is one thing
 abbrev pub WhatComesNextIsOneThing : Type 0

@@ -33,7 +33,8 @@ pub record IsGreeted (user password : List ℕ) (peer : Peer) (steps : List Step
   pub found : Greeting
   pub read : greeting_of message ≡ Ok found
   pub peer_is : peer ≡ peer_of found
-  pub steps_are : steps ≡ hears message ∷ answers (response user (password_answer password found.scramble) found.ends) ∷ []
+  pub steps_are : steps ≡ hears message
+      ∷ answers (response user (password_answer password found.scramble) found.ends) ∷ []
 
 -- the server asked for an answer over another scramble, and was given it
 pub record IsSwitched (user password : List ℕ) (peer : Peer) (steps : List Step) : Type 0 where
@@ -43,7 +44,8 @@ pub record IsSwitched (user password : List ℕ) (peer : Peer) (steps : List Ste
   pub found : Switch
   pub goes_on : fault_at decision 0 message ≡ None
   pub read : switch_of message ≡ Ok found
-  pub steps_are : steps ≡ before ++ hears message ∷ answers (switch_answer (password_answer password found.scramble)) ∷ []
+  pub steps_are : steps ≡ before ++ hears message
+      ∷ answers (switch_answer (password_answer password found.scramble)) ∷ []
 
 -- the server said OK to the answer over the last scramble
 pub record IsAccepted (user password : List ℕ) (peer : Peer) (steps : List Step) : Type 0 where
@@ -59,7 +61,8 @@ pub record IsLoggedIn (user password : List ℕ) (peer : Peer) (steps : List Ste
   pub accepted : IsAccepted user password peer before
   pub message : List ℕ
   pub said_ok : reply_of message ≡ Some Done
-  pub steps_are : steps ≡ before ++ commands (query_payload (command_text SetUp)) ∷ hears message ∷ []
+  pub steps_are : steps ≡ before ++ commands (query_payload (command_text SetUp)) ∷ hears message
+      ∷ []
 
 -- the set-up statement was sent
 pub record IsSettingUp (user password : List ℕ) (peer : Peer) (steps : List Step) : Type 0 where
@@ -70,12 +73,16 @@ pub record IsSettingUp (user password : List ℕ) (peer : Peer) (steps : List St
 -- what a login awaits after these steps
 pub data LoginAwaits (user password : List ℕ) (steps : List Step) : Awaited → Type 0 where
   a_greeting : steps ≡ [] → LoginAwaits user password steps greeting
-  a_decision : {peer : Peer} → IsGreeted user password peer steps → LoginAwaits user password steps decision
-  an_acceptance : {peer : Peer} → IsSwitched user password peer steps → LoginAwaits user password steps (done Connect)
-  a_set_up : {peer : Peer} → IsSettingUp user password peer steps → LoginAwaits user password steps (done Set)
+  a_decision : {peer : Peer} → IsGreeted user password peer steps →
+      LoginAwaits user password steps decision
+  an_acceptance : {peer : Peer} → IsSwitched user password peer steps →
+      LoginAwaits user password steps (done Connect)
+  a_set_up : {peer : Peer} → IsSettingUp user password peer steps →
+      LoginAwaits user password steps (done Set)
 
 -- a greeting was heard, to which this is the answer
-pub record AnswersGreeting (user password : List ℕ) (steps : List Step) (payload : List ℕ) : Type 0 where
+pub record AnswersGreeting (user password : List ℕ) (steps : List Step)
+    (payload : List ℕ) : Type 0 where
   pub message : List ℕ
   pub found : Greeting
   pub read : greeting_of message ≡ Ok found
@@ -83,7 +90,8 @@ pub record AnswersGreeting (user password : List ℕ) (steps : List Step) (paylo
   pub payload_is : payload ≡ response user (password_answer password found.scramble) found.ends
 
 -- a switch request was heard, to which this is the answer
-pub record AnswersSwitch (user password : List ℕ) (steps : List Step) (payload : List ℕ) : Type 0 where
+pub record AnswersSwitch (user password : List ℕ) (steps : List Step)
+    (payload : List ℕ) : Type 0 where
   pub peer : Peer
   pub before : List Step
   pub greeted : IsGreeted user password peer before
@@ -96,6 +104,9 @@ pub record AnswersSwitch (user password : List ℕ) (steps : List Step) (payload
 
 -- what a login sends after these steps
 pub data LoginSends (user password : List ℕ) (steps : List Step) (payload : List ℕ) : Type 0 where
-  the_response : AnswersGreeting user password steps payload → LoginSends user password steps payload
-  the_switch_answer : AnswersSwitch user password steps payload → LoginSends user password steps payload
-  the_set_up : {peer : Peer} → IsAccepted user password peer steps → payload ≡ query_payload (command_text SetUp) → LoginSends user password steps payload
+  the_response : AnswersGreeting user password steps payload →
+      LoginSends user password steps payload
+  the_switch_answer : AnswersSwitch user password steps payload →
+      LoginSends user password steps payload
+  the_set_up : {peer : Peer} → IsAccepted user password peer steps →
+      payload ≡ query_payload (command_text SetUp) → LoginSends user password steps payload

@@ -111,30 +111,36 @@ pub record Gathers {L : Type 0} (of : Ghosts L) (old new : Reader L) : Type 0 wh
   pub taken : new.taken ≡ old.taken + length new.frames.bytes
   pub exact : IsExact old.frames.limit old.frames.id new.frames.bytes
   pub sent : of.tells old.link → (of.told new.link).sent ≡ (of.told old.link).sent
-  pub stream : of.tells old.link → new.frames.bytes ++ stream (of.told new.link) ≡ stream (of.told old.link)
+  pub stream : of.tells old.link →
+      new.frames.bytes ++ stream (of.told new.link) ≡ stream (of.told old.link)
   pub stays : Stays of old.link new.link
-  pub was_alive : 0 < length new.frames.bytes → of.honest old.link → (of.served old.link).failed ≡ false
+  pub was_alive : 0 < length new.frames.bytes → of.honest old.link →
+      (of.served old.link).failed ≡ false
   pub gives : IsServing of old.link → Gives of new.frames.bytes old.link new.link
 
 -- some bytes of a message were taken off a link, which a skim read
 pub record SkimsPiece {L : Type 0} (of : Ghosts L) (old new : Skimmer L) : Type 0 where
   pub piece : List ℕ
   pub some : 0 < length piece
-  pub follows : (seq limit : ℕ) (fed : List ℕ) → Skims seq limit fed old.skim → Skims seq limit (fed ++ piece) new.skim
+  pub follows : (seq limit : ℕ) (fed : List ℕ) → Skims seq limit fed old.skim →
+      Skims seq limit (fed ++ piece) new.skim
   pub right : fault_of new.skim ≡ None
   pub taken : new.taken ≡ old.taken + length piece
   pub stream : of.tells old.link → stream (of.told old.link) ≡ piece ++ stream (of.told new.link)
   pub gives : of.honest old.link → Gives of piece old.link new.link
 
 -- with some bytes that were taken off the link a packet is wrong
-pub record Spoils {L : Type 0} (of : Ghosts L) (old : Skimmer L) (new : L) (fault : FrameFault) : Type 0 where
+pub record Spoils {L : Type 0} (of : Ghosts L) (old : Skimmer L) (new : L)
+    (fault : FrameFault) : Type 0 where
   pub piece : List ℕ
   pub within : old.taken + length piece ≤ 2 ^ 62
-  pub wrong : (seq limit : ℕ) (fed : List ℕ) → Skims seq limit fed old.skim → IsWrong limit seq (fed ++ piece) fault
+  pub wrong : (seq limit : ℕ) (fed : List ℕ) → Skims seq limit fed old.skim →
+      IsWrong limit seq (fed ++ piece) fault
   pub stream : of.tells old.link → stream (of.told old.link) ≡ piece ++ stream (of.told new)
 
 -- with them a packet has another sequence id than it should have, and its message began at this place
-pub record Disorders {L : Type 0} (of : Ghosts L) (old : Skimmer L) (new : L) (place began : ℕ) : Type 0 where
+pub record Disorders {L : Type 0} (of : Ghosts L) (old : Skimmer L) (new : L)
+    (place began : ℕ) : Type 0 where
   pub place_is : place ≡ began
   pub found : ℕ
   pub wanted : ℕ

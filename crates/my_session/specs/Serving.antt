@@ -56,18 +56,21 @@ module _ {L : Type 0} (of : Ghosts L) where
     pub waits : (of.served old).waiting ≡ bytes ++ (of.served new).waiting
 
   -- those of a message, after which the next packet has this id
-  pub record Delivers (message : List ℕ) (old : L) (id_before : ℕ) (new : L) (id_now : ℕ) : Type 0 where
+  pub record Delivers (message : List ℕ) (old : L) (id_before : ℕ) (new : L)
+      (id_now : ℕ) : Type 0 where
     pub gives : Gives (packets id_before message) old new
     pub id : id_now ≡ id_after (packet_count (length message)) id_before
 
   -- those of a message of which a skim kept the front
-  pub record DeliversFront (skim : SkimmedView) (old : L) (id_before : ℕ) (new : L) (id_now : ℕ) : Type 0 where
+  pub record DeliversFront (skim : SkimmedView) (old : L) (id_before : ℕ) (new : L)
+      (id_now : ℕ) : Type 0 where
     pub message : List ℕ
     pub delivers : Delivers message old id_before new id_now
     pub skims : Skims id_before 67108864 (packets id_before message) skim
 
   -- those of a message that is this reply's first, or spells none
-  pub record DeliversReply (reply : Option Reply) (old : L) (id_before : ℕ) (new : L) (id_now : ℕ) : Type 0 where
+  pub record DeliversReply (reply : Option Reply) (old : L) (id_before : ℕ) (new : L)
+      (id_now : ℕ) : Type 0 where
     pub message : List ℕ
     pub delivers : Delivers message old id_before new id_now
     pub reply_is : reply_of message ≡ reply

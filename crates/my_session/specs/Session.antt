@@ -78,7 +78,8 @@ pub record EndsStatement (fault : SessionFault) : Type 0 where
   pub ends : ends_session fault ≡ true
 
 -- the faults are of this kind, and none is for want of memory
-pub record NeedsNoMemory {A : Type 0} (IsSo : SessionFault → Type 0) (result : Result A SessionFault) : Type 0 where
+pub record NeedsNoMemory {A : Type 0} (IsSo : SessionFault → Type 0)
+    (result : Result A SessionFault) : Type 0 where
   pub kind : IfErr result IsSo
   pub memory : result ≡ Err OutOfMemory → ⊥
 
@@ -94,8 +95,10 @@ Runs command old (Err fault) new = Stops (RunAwaits command) (RunSends command) 
 
 -- what asking a query does, where result sets end so
 abbrev pub Asks : Ends → Query → Wire → Result ℕ SessionFault → Wire → Type 0
-Asks ends query old (Ok columns) new = Takes (λ steps. IsDescribed query steps (rows_of ends columns)) old new
-Asks ends query old (Err fault) new = Stops (QueryAwaits ends query) (QuerySends query) old fault new
+Asks ends query old (Ok columns) new =
+    Takes (λ steps. IsDescribed query steps (rows_of ends columns)) old new
+Asks ends query old (Err fault) new =
+    Stops (QueryAwaits ends query) (QuerySends query) old fault new
 
 -- the USE before a query wasn't run
 abbrev pub LeadStops : Query → Wire → SessionFault → Wire → Type 0
@@ -103,8 +106,12 @@ LeadStops query old fault new = Stops (LeadAwaits query) (LeadSends query) old f
 
 -- what hearing the messages before the rows does to a conversation that had come to this reading: it comes to the rows, or stops
 abbrev pub Describes : Query → Reading → Wire → Result (Unit {0}) SessionFault → Wire → Type 0
-Describes query reading old (Ok done) new = (start : Wire) → Takes (λ steps. IsDescribed query steps reading) start old → Takes (λ steps. IsDescribed query steps (rows_of reading.ends reading.columns)) start new
-Describes query reading old (Err fault) new = (start : Wire) → Takes (λ steps. IsDescribed query steps reading) start old → Stops (QueryAwaits reading.ends query) (QuerySends query) start fault new
+Describes query reading old (Ok done) new =
+    (start : Wire) → Takes (λ steps. IsDescribed query steps reading) start old →
+    Takes (λ steps. IsDescribed query steps (rows_of reading.ends reading.columns)) start new
+Describes query reading old (Err fault) new =
+    (start : Wire) → Takes (λ steps. IsDescribed query steps reading) start old →
+    Stops (QueryAwaits reading.ends query) (QuerySends query) start fault new
 
 -- the rows of a query are pending, which have so many columns, and at least one
 pub record HasPending (ends : Ends) (query : Query) (columns : ℕ) (pending : Pending) : Type 0 where
@@ -166,21 +173,24 @@ pub record MayAsk (query : Query) (reader : ReaderView) : Type 0 where
   pub free : IsFree reader
 
 -- the same server is at the other end: honest or not, of one origin, and on the same terms
-pub record IsSameServer {S : Type 0} (is_honest : S → Type 0) (joins : S → S → Type 0) (terms_of : S → Terms) (old new : S) : Type 0 where
+pub record IsSameServer {S : Type 0} (is_honest : S → Type 0) (joins : S → S → Type 0)
+    (terms_of : S → Terms) (old new : S) : Type 0 where
   pub honest : is_honest old ↔ is_honest new
   pub origin : joins old new
   pub terms : is_honest old → terms_of new ≡ terms_of old
 
 -- what every call keeps of a reader: it tells as before, a fault of the link is counted, the greeting stands, and it has failed
 -- exactly after a fault that ends the session
-pub record KeepsReader {A : Type 0} (tells_before : Type 0) (old : ReaderView) (result : Result A SessionFault) (tells_now : Type 0) (new : ReaderView) : Type 0 where
+pub record KeepsReader {A : Type 0} (tells_before : Type 0) (old : ReaderView)
+    (result : Result A SessionFault) (tells_now : Type 0) (new : ReaderView) : Type 0 where
   pub tells : tells_before ↔ tells_now
   pub counted : IsCounted old.faults new.faults result
   pub peer : new.peer ≡ old.peer
   pub failed : new.has_failed ≡ failed_by result
 
 -- what reading the next row does to a reader of rows
-pub record NextRow (tells : Type 0) (old : ReaderView) (result : Result (Option Row) SessionFault) (tells_still : Type 0) (new : ReaderView) : Type 0 where
+pub record NextRow (tells : Type 0) (old : ReaderView) (result : Result (Option Row) SessionFault)
+    (tells_still : Type 0) (new : ReaderView) : Type 0 where
   pub keeps : KeepsReader tells old result tells_still new
   pub pending : PendingAfterRow old.peer.ends old.pending result new.pending
   pub onward : MovesOn old.wire.place result new.wire.place
@@ -189,20 +199,35 @@ pub record NextRow (tells : Type 0) (old : ReaderView) (result : Result (Option 
 module _ {L : Type 0} (of : Ghosts L) where
   -- a link on which nothing was heard
   abbrev pub fresh : L → Wire
-  fresh link = record { sent = (of.told link).sent; stream = stream (of.told link); place = 0; id = 0 }
+  fresh link = record {
+    sent = (of.told link).sent;
+    stream = stream (of.told link);
+    place = 0;
+    id = 0;
+  }
 
   -- a session as a reader of rows
   abbrev pub reader_view : SessionView L → ReaderView
-  reader_view session = record { wire = wire_of of session; faults = of.faults session.link; peer = session.peer; has_failed = session.has_failed; pending = session.pending }
+  reader_view session =
+      record {
+        wire = wire_of of session;
+        faults = of.faults session.link;
+        peer = session.peer;
+        has_failed = session.has_failed;
+        pending = session.pending;
+      }
 
   -- the same server is at the other end of a link
   abbrev pub KeepsServer : L → L → Type 0
-  KeepsServer old new = IsSameServer of.honest of.same_origin (λ link. (of.served link).state.terms) old new
+  KeepsServer old new =
+      IsSameServer of.honest of.same_origin (λ link. (of.served link).state.terms) old new
 
   -- what every call keeps of a session
-  pub record KeepsSession {A : Type 0} (old new : SessionView L) (result : Result A SessionFault) : Type 0 where
+  pub record KeepsSession {A : Type 0} (old new : SessionView L)
+      (result : Result A SessionFault) : Type 0 where
     pub server : KeepsServer old.link new.link
-    pub reader : KeepsReader (of.tells old.link) (reader_view old) result (of.tells new.link) (reader_view new)
+    pub reader : KeepsReader (of.tells old.link) (reader_view old) result (of.tells new.link)
+        (reader_view new)
 
   -- a session that was logged in over a link
   pub record LoggedIn (user password : List ℕ) (link : L) (session : SessionView L) : Type 0 where
@@ -210,7 +235,8 @@ module _ {L : Type 0} (of : Ghosts L) where
     pub later : of.faults link ≤ of.faults session.link
     pub alive : session.has_failed ≡ false
     pub idle : session.pending.reading ≡ idle session.peer.ends
-    pub takes : of.tells link → Takes (IsLoggedIn user password session.peer) (fresh link) (wire_of of session)
+    pub takes : of.tells link →
+        Takes (IsLoggedIn user password session.peer) (fresh link) (wire_of of session)
 
   -- the wire of a link that was given back
   pub record IsWireOf (link : L) (wire : Wire) : Type 0 where
@@ -218,17 +244,22 @@ module _ {L : Type 0} (of : Ghosts L) where
     pub stream : wire.stream ≡ stream (of.told link)
 
   -- why a login stopped
-  pub record LoginStopped (user password : List ℕ) (link given_back : L) (fault : SessionFault) : Type 0 where
+  pub record LoginStopped (user password : List ℕ) (link given_back : L)
+      (fault : SessionFault) : Type 0 where
     pub tells : of.tells link ↔ of.tells given_back
     pub later : of.faults link ≤ of.faults given_back
     pub failed : fault ≡ Link → Rose (of.faults link) (of.faults given_back)
     pub wire : Wire
     pub is_wire : IsWireOf given_back wire
-    pub stops : of.tells link → Stops (LoginAwaits user password) (LoginSends user password) (fresh link) fault wire
+    pub stops : of.tells link →
+        Stops (LoginAwaits user password) (LoginSends user password) (fresh link) fault wire
 
   -- what closing a session does: COM_QUIT is sent, whatever comes of it, but not where the session has failed
   pub record Closes (quit : List ℕ) (session : SessionView L) (link : L) : Type 0 where
     pub tells : of.tells session.link ↔ of.tells link
     pub later : of.faults session.link ≤ of.faults link
     pub failed : session.has_failed ≡ true → link ≡ session.link
-    pub quits : session.has_failed ≡ false → of.tells session.link → ((of.told link).sent ≡ (of.told session.link).sent ++ quit ∷ []) ⊎ (((of.told link).sent ≡ (of.told session.link).sent) × Rose (of.faults session.link) (of.faults link))
+    pub quits : session.has_failed ≡ false → of.tells session.link →
+        ((of.told link).sent ≡ (of.told session.link).sent ++ quit ∷ [])
+        ⊎ (((of.told link).sent ≡ (of.told session.link).sent)
+        × Rose (of.faults session.link) (of.faults link))

@@ -30,7 +30,8 @@ pub record IsRun (command : Command) (steps : List Step) : Type 0 where
 
 -- what running a command awaits after these steps
 pub data RunAwaits (command : Command) (steps : List Step) : Awaited → Type 0 where
-  an_ok : steps ≡ commands (command_payload command) ∷ [] → RunAwaits command steps (done (command_form command))
+  an_ok : steps ≡ commands (command_payload command) ∷ [] →
+      RunAwaits command steps (done (command_form command))
 
 -- what it sends after these steps
 pub record RunSends (command : Command) (steps : List Step) (payload : List ℕ) : Type 0 where
@@ -78,17 +79,26 @@ pub record IsDescribed (query : Query) (steps : List Step) (reading : Reading) :
   pub others : List (List ℕ)
   pub columns : ℕ
   pub reply : reply_of first ≡ Some (Columns columns)
-  pub turns : turns_of (columns_counted reading.ends columns) others ≡ replicate (length others) definition
-  pub reading_is : reading ≡ record { columns = columns; awaited = awaited_count reading.ends columns - length others; ends = reading.ends }
+  pub turns : turns_of (columns_counted reading.ends columns) others
+      ≡ replicate (length others) definition
+  pub reading_is : reading
+      ≡ record {
+        columns = columns;
+        awaited = awaited_count reading.ends columns - length others;
+        ends = reading.ends;
+      }
   pub steps_are : steps ≡ before ++ hears first ∷ map (λ message. hears message) others
 
 -- what asking a query awaits after these steps, where result sets end so
 pub data QueryAwaits (ends : Ends) (query : Query) (steps : List Step) : Awaited → Type 0 where
-  a_lead : {awaited : Awaited} → LeadAwaits query steps awaited → QueryAwaits ends query steps awaited
+  a_lead : {awaited : Awaited} → LeadAwaits query steps awaited →
+      QueryAwaits ends query steps awaited
   a_count : IsAsked query steps → QueryAwaits ends query steps (count (query_form query))
-  a_definition : {reading : Reading} → reading.ends ≡ ends → IsDescribed query steps reading → QueryAwaits ends query steps (further (query_form query) reading)
+  a_definition : {reading : Reading} → reading.ends ≡ ends → IsDescribed query steps reading →
+      QueryAwaits ends query steps (further (query_form query) reading)
 
 -- what it sends after these steps
 pub data QuerySends (query : Query) (steps : List Step) (payload : List ℕ) : Type 0 where
   the_lead : LeadSends query steps payload → QuerySends query steps payload
-  the_query : IsLed query steps → payload ≡ query_payload (query_text query) → QuerySends query steps payload
+  the_query : IsLed query steps → payload ≡ query_payload (query_text query) →
+      QuerySends query steps payload

@@ -49,9 +49,14 @@ pub data Step : Type 0 where
 -- the steps lead from one wire to the other
 pub data Leads : List Step → Wire → Wire → Type 0 where
   ends : {wire : Wire} → Leads [] wire wire
-  after_command : {payload : List ℕ} {steps : List Step} {old new : Wire} → length payload ≤ MESSAGE_LIMIT → Leads steps (after_sent 0 payload old) new → Leads (commands payload ∷ steps) old new
-  after_answer : {payload : List ℕ} {steps : List Step} {old new : Wire} → length payload ≤ MESSAGE_LIMIT → Leads steps (after_sent old.id payload old) new → Leads (answers payload ∷ steps) old new
-  after_message : {message : List ℕ} {steps : List Step} {old middle new : Wire} → Hears message old middle → Leads steps middle new → Leads (hears message ∷ steps) old new
+  after_command : {payload : List ℕ} {steps : List Step} {old new : Wire} →
+      length payload ≤ MESSAGE_LIMIT → Leads steps (after_sent 0 payload old) new →
+      Leads (commands payload ∷ steps) old new
+  after_answer : {payload : List ℕ} {steps : List Step} {old new : Wire} →
+      length payload ≤ MESSAGE_LIMIT → Leads steps (after_sent old.id payload old) new →
+      Leads (answers payload ∷ steps) old new
+  after_message : {message : List ℕ} {steps : List Step} {old middle new : Wire} →
+      Hears message old middle → Leads steps middle new → Leads (hears message ∷ steps) old new
 
 -- steps of this kind lead from one wire to the other
 pub record Takes (IsSo : List Step → Type 0) (old new : Wire) : Type 0 where

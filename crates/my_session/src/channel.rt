@@ -87,7 +87,14 @@ fn spell_packet(out: &mut [u8], id: u8, payload: &[u8])
 impl<L: Link> Channel<L> {
     /// A link on which nothing was heard. Takes no memory.
     pub fn new(alloc: Global, link: L) -> Channel<L>
-        ensures { result ≡ record { link = link; place = 0; id = 0; has_failed = false; message = []; began = 0 } }
+        ensures { result ≡ record {
+          link = link;
+          place = 0;
+          id = 0;
+          has_failed = false;
+          message = [];
+          began = 0;
+        } }
     {
         Channel {
             link,
@@ -149,7 +156,8 @@ impl<L: Link> Channel<L> {
     fn say_short(&mut self, id: u8, payload: &[u8]) -> Result<(), SessionFault>
         requires alive { self.old.has_failed ≡ false }
         requires short { length payload.now ≤ SHORT_PAYLOAD }
-        requires may { L.honest self.old.link → MaySay id payload.now (L.served self.old.link).state }
+        requires may { L.honest self.old.link →
+            MaySay id payload.now (L.served self.old.link).state }
 
         ensures keeps { Keeps L.Link self.old.link self.new.link result }
         ensures failed { self.new.has_failed ≡ failed_by result }
@@ -169,12 +177,14 @@ impl<L: Link> Channel<L> {
     #[tactic(auto, using(crate::proofs::Sending::short_says_none, crate::proofs::Sending::short_takes_none, crate::proofs::Sending::long_says_none))]
     pub fn say(&mut self, id: u8, payload: &[u8]) -> Result<(), SessionFault>
         requires alive { self.old.has_failed ≡ false }
-        requires may { L.honest self.old.link → MaySay id payload.now (L.served self.old.link).state }
+        requires may { L.honest self.old.link →
+            MaySay id payload.now (L.served self.old.link).state }
 
         ensures keeps { Keeps L.Link self.old.link self.new.link result }
         ensures failed { self.new.has_failed ≡ failed_by result }
         ensures ok { OnOk result (Says L.Link id payload.now self.old self.new) }
-        ensures memory { length payload.now ≤ SHORT_PAYLOAD → result ≡ Err SessionFault.OutOfMemory → ⊥ }
+        ensures memory { length payload.now ≤ SHORT_PAYLOAD →
+            result ≡ Err SessionFault.OutOfMemory → ⊥ }
         ensures err { IfErr result (SaysNone L.Link payload.now self.old self.new) }
     {
         if payload.len() <= SHORT_PAYLOAD {
@@ -191,7 +201,8 @@ impl<L: Link> Channel<L> {
     /// heard last. Refusals, memory and conditions are those of [`Channel::say`].
     pub fn answer(&mut self, payload: &[u8]) -> Result<(), SessionFault>
         requires alive { self.old.has_failed ≡ false }
-        requires may { L.honest self.old.link → MaySay self.old.id payload.now (L.served self.old.link).state }
+        requires may { L.honest self.old.link →
+            MaySay self.old.id payload.now (L.served self.old.link).state }
 
         ensures keeps { Keeps L.Link self.old.link self.new.link result }
         ensures failed { self.new.has_failed ≡ failed_by result }
@@ -206,7 +217,8 @@ impl<L: Link> Channel<L> {
     fn say_long(&mut self, id: u8, payload: &[u8]) -> Result<(), SessionFault>
         requires alive { self.old.has_failed ≡ false }
         requires within { length payload.now ≤ MESSAGE_LIMIT }
-        requires may { L.honest self.old.link → MaySay id payload.now (L.served self.old.link).state }
+        requires may { L.honest self.old.link →
+            MaySay id payload.now (L.served self.old.link).state }
 
         ensures keeps { Keeps L.Link self.old.link self.new.link result }
         ensures failed { self.new.has_failed ≡ failed_by result }
@@ -236,12 +248,14 @@ impl<L: Link> Channel<L> {
     /// mustn't have failed, and on an honest link that hasn't failed a whole message must wait.
     pub fn hear(&mut self) -> Result<(), SessionFault>
         requires alive { self.old.has_failed ≡ false }
-        requires waits { IsServing L.Link self.old.link → MessageWaits self.old.id (L.served self.old.link).waiting }
+        requires waits { IsServing L.Link self.old.link →
+            MessageWaits self.old.id (L.served self.old.link).waiting }
 
         ensures keeps { Keeps L.Link self.old.link self.new.link result }
         ensures failed { self.new.has_failed ≡ failed_by result }
         ensures began { OnOk result (self.new.began ≡ self.old.place) }
-        ensures ok { OnOk result (HearsNext L.Link self.new.message (link_of self.old) (link_of self.new)) }
+        ensures ok { OnOk result
+            (HearsNext L.Link self.new.message (link_of self.old) (link_of self.new)) }
         ensures err { IfErr result (HearsNone L.Link (link_of self.old) (link_of self.new)) }
     {
         self.frames.start(self.id);
@@ -267,12 +281,14 @@ impl<L: Link> Channel<L> {
     /// are those of [`Channel::hear`], without `OutOfMemory`.
     pub fn skim(&mut self) -> Result<Skim, SessionFault>
         requires alive { self.old.has_failed ≡ false }
-        requires waits { IsServing L.Link self.old.link → MessageWaits self.old.id (L.served self.old.link).waiting }
+        requires waits { IsServing L.Link self.old.link →
+            MessageWaits self.old.id (L.served self.old.link).waiting }
 
         ensures keeps { Keeps L.Link self.old.link self.new.link result }
         ensures failed { self.new.has_failed ≡ failed_by result }
         ensures memory { result ≡ Err SessionFault.OutOfMemory → ⊥ }
-        ensures ok { IfOk result (λ skim. SkimsNext L.Link skim (link_of self.old) (link_of self.new)) }
+        ensures ok { IfOk result
+            (λ skim. SkimsNext L.Link skim (link_of self.old) (link_of self.new)) }
         ensures err { IfErr result (HearsNone L.Link (link_of self.old) (link_of self.new)) }
     {
         let began = self.taken;

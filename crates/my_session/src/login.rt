@@ -7,7 +7,7 @@ ghost use Rattle.wire_forms.specs.Reply.{reply_of};
 ghost use Rattle.statement_forms.specs.declared.command.Command.{Command};
 ghost use Rattle.statement_forms.specs.declared.command.Command.TheVariants.{SetUp};
 ghost use Rattle.my_session.specs.Awaited.{greeting, decision, greeting_fault, decision_fault, switch_fault};
-ghost use Rattle.my_session.specs.Channel.{channel_wire, Says, SaysNone};
+ghost use Rattle.my_session.specs.Channel.{channel_wire, Says, SaysNone, FaultWhereTold, WhereTold};
 ghost use Rattle.my_session.specs.Halt.{Halts};
 ghost use Rattle.my_session.specs.Heard.{HearsGreeting, HearsDecision, IsDecision, AcceptsSwitched, StopsSwitched, AcceptsGreeted, StopsGreeted, LoginStops};
 ghost use Rattle.my_session.specs.InStep.{phase_after, AwaitsGreeting, DecisionWaits, IsQuiet};
@@ -87,11 +87,14 @@ fn hear_greeting<L: Link>(channel: &mut Channel<L>) -> Result<Greeting, SessionF
     requires awaits { AwaitsGreeting L.Link channel.old }
 
     ensures keeps { Keeps L.Link channel.old.link channel.new.link result }
-    ensures quiet { OnOk result (L.honest channel.new.link → IsQuiet L.Link greeted channel.new.link) }
-    ensures server { IfOk result (λ found. L.honest channel.new.link → IsPeerOf (L.served channel.new.link).state.terms.server (peer_of found)) }
+    ensures quiet { OnOk result
+        (L.honest channel.new.link → IsQuiet L.Link greeted channel.new.link) }
+    ensures server { IfOk result (λ found. L.honest channel.new.link →
+        IsPeerOf (L.served channel.new.link).state.terms.server (peer_of found)) }
     ensures alive { OnOk result (channel.new.has_failed ≡ false) }
-    ensures heard { IfOk result (λ found. L.tells channel.old.link → HearsGreeting found (channel_wire L.Link channel.old) (channel_wire L.Link channel.new)) }
-    ensures err { IfErr result (λ fault. L.tells channel.old.link → Halts greeting (channel_wire L.Link channel.old) fault (channel_wire L.Link channel.new)) }
+    ensures heard { IfOk result
+        (λ found. WhereTold L.Link (HearsGreeting found) channel.old channel.new) }
+    ensures err { IfErr result (FaultWhereTold L.Link (Halts greeting) channel.old channel.new) }
 {
     let place = channel.place();
     if let Err(fault) = channel.hear() {
@@ -115,10 +118,13 @@ fn respond<L: Link>(
     requires quiet { L.honest channel.old.link → IsQuiet L.Link greeted channel.old.link }
 
     ensures keeps { Keeps L.Link channel.old.link channel.new.link result }
-    ensures decision { OnOk result (L.honest channel.new.link → DecisionWaits L.Link channel.new.link channel.new.id) }
+    ensures decision { OnOk result
+        (L.honest channel.new.link → DecisionWaits L.Link channel.new.link channel.new.id) }
     ensures alive { OnOk result (channel.new.has_failed ≡ false) }
-    ensures says { OnOk result (Says L.Link channel.old.id (response user.now (option_copied answer.entry) ends) channel.old channel.new) }
-    ensures err { IfErr result (SaysNone L.Link (response user.now (option_copied answer.entry) ends) channel.old channel.new) }
+    ensures says { OnOk result (Says L.Link channel.old.id
+        (response user.now (option_copied answer.entry) ends) channel.old channel.new) }
+    ensures err { IfErr result (SaysNone L.Link
+        (response user.now (option_copied answer.entry) ends) channel.old channel.new) }
 {
     let mut out = Vec::new(alloc);
     if response_into(user, answer, ends, &mut out).is_err() {
@@ -137,11 +143,15 @@ fn greet<L: Link>(
     requires awaits { AwaitsGreeting L.Link channel.old }
 
     ensures keeps { Keeps L.Link channel.old.link channel.new.link result }
-    ensures decision { OnOk result (L.honest channel.new.link → DecisionWaits L.Link channel.new.link channel.new.id) }
+    ensures decision { OnOk result
+        (L.honest channel.new.link → DecisionWaits L.Link channel.new.link channel.new.id) }
     ensures alive { OnOk result (channel.new.has_failed ≡ false) }
-    ensures server { IfOk result (λ peer. L.honest channel.new.link → IsPeerOf (L.served channel.new.link).state.terms.server peer) }
-    ensures ok { IfOk result (λ peer. L.tells channel.old.link → Takes (IsGreeted user.now password.now peer) (channel_wire L.Link channel.old) (channel_wire L.Link channel.new)) }
-    ensures err { IfErr result (λ fault. L.tells channel.old.link → LoginStops user.now password.now (channel_wire L.Link channel.old) fault (channel_wire L.Link channel.new)) }
+    ensures server { IfOk result (λ peer. L.honest channel.new.link →
+        IsPeerOf (L.served channel.new.link).state.terms.server peer) }
+    ensures ok { IfOk result (λ peer. WhereTold L.Link
+        (Takes (IsGreeted user.now password.now peer)) channel.old channel.new) }
+    ensures err { IfErr result
+        (FaultWhereTold L.Link (LoginStops user.now password.now) channel.old channel.new) }
 {
     let greeting = match hear_greeting(channel) {
         Ok(greeting) => greeting,
@@ -156,7 +166,8 @@ fn greet<L: Link>(
 
 // Reads a request for another scramble's answer.
 fn read_switch(place: u64, payload: &[u8]) -> Result<Switch, SessionFault>
-    ensures { MatchResult result (λ found. switch_of payload.now ≡ Ok found) (λ fault. switch_fault place (switch_of payload.now) ≡ Some fault) }
+    ensures { MatchResult result (λ found. switch_of payload.now ≡ Ok found)
+        (λ fault. switch_fault place (switch_of payload.now) ≡ Some fault) }
 {
     match Switch::read(payload) {
         Ok(switch) => Ok(switch),
@@ -166,7 +177,8 @@ fn read_switch(place: u64, payload: &[u8]) -> Result<Switch, SessionFault>
 
 // Reads what a server decides.
 fn read_decision(place: u64, payload: &[u8]) -> Result<Decision, SessionFault>
-    ensures { MatchResult result (λ found. IsDecision found payload.now) (λ fault. decision_fault place payload.now (reply_of payload.now) ≡ Some fault) }
+    ensures { MatchResult result (λ found. IsDecision found payload.now)
+        (λ fault. decision_fault place payload.now (reply_of payload.now) ≡ Some fault) }
 {
     match read_reply(payload, &mut RowReader::new(Ends::Eof)) {
         Some(Reply::Done) => return Ok(Decision::Accepted),
@@ -185,13 +197,16 @@ fn read_decision(place: u64, payload: &[u8]) -> Result<Decision, SessionFault>
 // Hears what the server decides.
 fn hear_decision<L: Link>(channel: &mut Channel<L>) -> Result<Decision, SessionFault>
     requires alive { channel.old.has_failed ≡ false }
-    requires decision { L.honest channel.old.link → DecisionWaits L.Link channel.old.link channel.old.id }
+    requires decision { L.honest channel.old.link →
+        DecisionWaits L.Link channel.old.link channel.old.id }
 
     ensures keeps { Keeps L.Link channel.old.link channel.new.link result }
-    ensures quiet { IfOk result (λ found. L.honest channel.new.link → IsQuiet L.Link (phase_after found) channel.new.link) }
+    ensures quiet { IfOk result
+        (λ found. L.honest channel.new.link → IsQuiet L.Link (phase_after found) channel.new.link) }
     ensures alive { OnOk result (channel.new.has_failed ≡ false) }
-    ensures heard { IfOk result (λ found. L.tells channel.old.link → HearsDecision found (channel_wire L.Link channel.old) (channel_wire L.Link channel.new)) }
-    ensures err { IfErr result (λ fault. L.tells channel.old.link → Halts decision (channel_wire L.Link channel.old) fault (channel_wire L.Link channel.new)) }
+    ensures heard { IfOk result
+        (λ found. WhereTold L.Link (HearsDecision found) channel.old channel.new) }
+    ensures err { IfErr result (FaultWhereTold L.Link (Halts decision) channel.old channel.new) }
 {
     let place = channel.place();
     if let Err(fault) = channel.hear() {
@@ -210,10 +225,13 @@ fn answer_switch<L: Link>(
     requires quiet { L.honest channel.old.link → IsQuiet L.Link switching channel.old.link }
 
     ensures keeps { Keeps L.Link channel.old.link channel.new.link result }
-    ensures quiet { OnOk result (L.honest channel.new.link → IsQuiet L.Link in_session channel.new.link) }
+    ensures quiet { OnOk result
+        (L.honest channel.new.link → IsQuiet L.Link in_session channel.new.link) }
     ensures alive { OnOk result (channel.new.has_failed ≡ false) }
-    ensures ok { OnOk result (L.tells channel.old.link → AcceptsSwitched password.now switch (channel_wire L.Link channel.old) (channel_wire L.Link channel.new)) }
-    ensures err { IfErr result (λ fault. L.tells channel.old.link → StopsSwitched password.now switch (channel_wire L.Link channel.old) fault (channel_wire L.Link channel.new)) }
+    ensures ok { OnOk result
+        (WhereTold L.Link (AcceptsSwitched password.now switch) channel.old channel.new) }
+    ensures err { IfErr result
+        (FaultWhereTold L.Link (StopsSwitched password.now switch) channel.old channel.new) }
 {
     let answer = password_answer(password, &switch.scramble);
     if let Err(fault) = send_answer(channel, answer.as_ref()) {
@@ -231,10 +249,13 @@ fn send_answer<L: Link>(
     requires quiet { L.honest channel.old.link → IsQuiet L.Link switching channel.old.link }
 
     ensures keeps { Keeps L.Link channel.old.link channel.new.link result }
-    ensures decision { OnOk result (L.honest channel.new.link → DecisionWaits L.Link channel.new.link channel.new.id) }
+    ensures decision { OnOk result
+        (L.honest channel.new.link → DecisionWaits L.Link channel.new.link channel.new.id) }
     ensures alive { OnOk result (channel.new.has_failed ≡ false) }
-    ensures says { OnOk result (Says L.Link channel.old.id (switch_answer (option_copied answer.entry)) channel.old channel.new) }
-    ensures err { IfErr result (SaysNone L.Link (switch_answer (option_copied answer.entry)) channel.old channel.new) }
+    ensures says { OnOk result (Says L.Link channel.old.id
+        (switch_answer (option_copied answer.entry)) channel.old channel.new) }
+    ensures err { IfErr result
+        (SaysNone L.Link (switch_answer (option_copied answer.entry)) channel.old channel.new) }
 {
     match answer {
         Some(bytes) => channel.answer(bytes),
@@ -245,13 +266,17 @@ fn send_answer<L: Link>(
 // Hears that the login is accepted, over another scramble where the server asks for that.
 fn be_accepted<L: Link>(channel: &mut Channel<L>, password: &[u8]) -> Result<(), SessionFault>
     requires alive { channel.old.has_failed ≡ false }
-    requires decision { L.honest channel.old.link → DecisionWaits L.Link channel.old.link channel.old.id }
+    requires decision { L.honest channel.old.link →
+        DecisionWaits L.Link channel.old.link channel.old.id }
 
     ensures keeps { Keeps L.Link channel.old.link channel.new.link result }
-    ensures quiet { OnOk result (L.honest channel.new.link → IsQuiet L.Link in_session channel.new.link) }
+    ensures quiet { OnOk result
+        (L.honest channel.new.link → IsQuiet L.Link in_session channel.new.link) }
     ensures alive { OnOk result (channel.new.has_failed ≡ false) }
-    ensures ok { OnOk result (L.tells channel.old.link → AcceptsGreeted password.now (channel_wire L.Link channel.old) (channel_wire L.Link channel.new)) }
-    ensures err { IfErr result (λ fault. L.tells channel.old.link → StopsGreeted password.now (channel_wire L.Link channel.old) fault (channel_wire L.Link channel.new)) }
+    ensures ok { OnOk result
+        (WhereTold L.Link (AcceptsGreeted password.now) channel.old channel.new) }
+    ensures err { IfErr result
+        (FaultWhereTold L.Link (StopsGreeted password.now) channel.old channel.new) }
 {
     match hear_decision(channel) {
         Ok(Decision::Accepted) => Ok(()),
@@ -266,10 +291,12 @@ fn set_up<L: Link>(channel: &mut Channel<L>, payload: &mut Buffer) -> Result<(),
     requires quiet { L.honest channel.old.link → IsQuiet L.Link in_session channel.old.link }
 
     ensures keeps { Keeps L.Link channel.old.link channel.new.link result }
-    ensures quiet { OnOk result (L.honest channel.new.link → IsQuiet L.Link in_session channel.new.link) }
+    ensures quiet { OnOk result
+        (L.honest channel.new.link → IsQuiet L.Link in_session channel.new.link) }
     ensures alive { OnOk result (channel.new.has_failed ≡ false) }
     ensures room { OnOk result (SHORT_PAYLOAD ≤ length payload.new.bytes + payload.new.spare) }
-    ensures runs { L.tells channel.old.link → Runs SetUp (channel_wire L.Link channel.old) result (channel_wire L.Link channel.new) }
+    ensures runs { L.tells channel.old.link →
+        Runs SetUp (channel_wire L.Link channel.old) result (channel_wire L.Link channel.new) }
 {
     if payload.reserve(SHORT_PAYLOAD).is_err() {
         return Err(SessionFault::OutOfMemory);
@@ -288,12 +315,16 @@ pub(crate) fn log_in<L: Link>(
     requires awaits { AwaitsGreeting L.Link channel.old }
 
     ensures keeps { Keeps L.Link channel.old.link channel.new.link result }
-    ensures quiet { OnOk result (L.honest channel.new.link → IsQuiet L.Link in_session channel.new.link) }
-    ensures server { IfOk result (λ peer. L.honest channel.new.link → IsPeerOf (L.served channel.new.link).state.terms.server peer) }
+    ensures quiet { OnOk result
+        (L.honest channel.new.link → IsQuiet L.Link in_session channel.new.link) }
+    ensures server { IfOk result (λ peer. L.honest channel.new.link →
+        IsPeerOf (L.served channel.new.link).state.terms.server peer) }
     ensures alive { OnOk result (channel.new.has_failed ≡ false) }
     ensures room { OnOk result (SHORT_PAYLOAD ≤ length payload.new.bytes + payload.new.spare) }
-    ensures ok { IfOk result (λ peer. L.tells channel.old.link → Takes (IsLoggedIn user.now password.now peer) (channel_wire L.Link channel.old) (channel_wire L.Link channel.new)) }
-    ensures err { IfErr result (λ fault. L.tells channel.old.link → LoginStops user.now password.now (channel_wire L.Link channel.old) fault (channel_wire L.Link channel.new)) }
+    ensures ok { IfOk result (λ peer. WhereTold L.Link
+        (Takes (IsLoggedIn user.now password.now peer)) channel.old channel.new) }
+    ensures err { IfErr result
+        (FaultWhereTold L.Link (LoginStops user.now password.now) channel.old channel.new) }
 {
     let peer = match greet(alloc, channel, user, password) {
         Ok(peer) => peer,

@@ -36,10 +36,13 @@ pub trait Reads {
         requires may { MayAsk query.now (view self.old) }
 
         ensures server { IsSameServer honest same_origin terms self.old self.new }
-        ensures reader { KeepsReader (tells self.old) (view self.old) result (tells self.new) (view self.new) }
-        ensures pending { PendingAfter (view self.old).peer.ends query.now result (view self.new).pending }
+        ensures reader { KeepsReader (tells self.old) (view self.old) result (tells self.new)
+            (view self.new) }
+        ensures pending { PendingAfter (view self.old).peer.ends query.now result
+            (view self.new).pending }
         ensures fault { IfErr result IsOfStatement }
-        ensures asks { tells self.old → Asks (view self.old).peer.ends query.now (view self.old).wire result (view self.new).wire };
+        ensures asks { tells self.old → Asks (view self.old).peer.ends query.now
+            (view self.old).wire result (view self.new).wire };
 
     /// The next row, lent until the next call, or `None` exactly at the end of the rows. The
     /// conditions are that the reader hasn't failed and that rows are pending. Either comes in bytes

@@ -40,7 +40,8 @@ fn fetch<L: Link>(
     requires place { frames.old.place + length frames.old.bytes ≤ taken.old }
 
     ensures keeps { Keeps L.Link link.old link.new result }
-    ensures stays { StaysReader L.Link (reader_at link.old frames.old taken.old) (reader_at link.new frames.new taken.new) }
+    ensures stays { StaysReader L.Link (reader_at link.old frames.old taken.old)
+        (reader_at link.new frames.new taken.new) }
     ensures ok { OnOk result (Fetches L.Link wants (reader_at link.old frames.old taken.old)
         (reader_at link.new frames.new taken.new)) }
     ensures err { IfErr result (Unfetched taken.old) }
@@ -87,13 +88,14 @@ pub(crate) fn receive<L: Link>(
 ) -> Result<(), SessionFault>
     requires empty { frames.old.bytes ≡ [] }
     requires reader { IsReader frames.old taken.old }
-    requires waits { IsServing L.Link link.old → MessageWaits frames.old.id (L.served link.old).waiting }
+    requires waits { IsServing L.Link link.old →
+        MessageWaits frames.old.id (L.served link.old).waiting }
 
     ensures keeps { Keeps L.Link link.old link.new result }
     ensures reader { IsReader frames.new taken.new }
     ensures empty { OnOk result (frames.new.bytes ≡ []) }
-    ensures ok { OnOk result (HearsNext L.Link frames.new.message (link_at link.old taken.old frames.old.id)
-        (link_at link.new taken.new frames.new.id)) }
+    ensures ok { OnOk result (HearsNext L.Link frames.new.message
+        (link_at link.old taken.old frames.old.id) (link_at link.new taken.new frames.new.id)) }
     ensures err { IfErr result (HearsNone L.Link (link_at link.old taken.old frames.old.id)
         (link_at link.new taken.new frames.new.id)) }
 {
@@ -127,7 +129,8 @@ fn skim_piece<L: Link>(
     ensures sent { L.tells link.old → (L.told link.new).sent ≡ (L.told link.old).sent }
     ensures ok { OnOk result (SkimsPiece L.Link (skimmer_at link.old skim.old taken.old)
         (skimmer_at link.new skim.new taken.new)) }
-    ensures err { IfErr result (Unskimmed L.Link (skimmer_at link.old skim.old taken.old) link.new began) }
+    ensures err { IfErr result
+        (Unskimmed L.Link (skimmer_at link.old skim.old taken.old) link.new began) }
 {
     let room = room(wants, *taken);
     if room == 0 {
@@ -161,7 +164,8 @@ pub(crate) fn skim_message<L: Link>(
     ensures still { IsStillWithin taken.old taken.new }
     ensures size { OnOk result (4 ≤ taken.new - taken.old) }
     ensures memory { result ≡ Err SessionFault.OutOfMemory → ⊥ }
-    ensures ok { IfOk result (λ skim. SkimsTo L.Link skim (link_at link.old taken.old id) link.new taken.new) }
+    ensures ok { IfOk result
+        (λ skim. SkimsTo L.Link skim (link_at link.old taken.old id) link.new taken.new) }
     ensures err { IfErr result (λ fault. (now : ℕ) →
         HearsNone L.Link (link_at link.old taken.old id) (link_at link.new taken.new now) fault) }
 {

@@ -6,7 +6,7 @@ ghost use Rattle.statement_forms.specs.Form.{query_form};
 ghost use Rattle.statement_forms.specs.Statement.{QueryHasText};
 ghost use Rattle.statement_forms.specs.Text.{query_text};
 ghost use Rattle.my_session.specs.Awaited.{count, further};
-ghost use Rattle.my_session.specs.Channel.{channel_wire, Says, SaysNone};
+ghost use Rattle.my_session.specs.Channel.{channel_wire, Says, SaysNone, FaultWhereTold, WhereTold};
 ghost use Rattle.my_session.specs.Halt.{Halts};
 ghost use Rattle.my_session.specs.Heard.{HearsReply, HearsDefinition, IsAfterRow, Judges};
 ghost use Rattle.honest_server.specs.State.{in_session};
@@ -80,10 +80,12 @@ fn lead<L: Link>(
 
     ensures keeps { Keeps L.Link channel.old.link channel.new.link result }
     ensures rest { failed_by result ≡ false → IsAtRest L.Link in_session channel.new }
-    ensures room { length payload.old.bytes + payload.old.spare ≤ length payload.new.bytes + payload.new.spare }
+    ensures room { length payload.old.bytes + payload.old.spare ≤ length payload.new.bytes
+        + payload.new.spare }
     ensures fault { IfErr result IsOfStatement }
-    ensures ok { OnOk result (L.tells channel.old.link → Takes (IsLed query.now) (channel_wire L.Link channel.old) (channel_wire L.Link channel.new)) }
-    ensures err { IfErr result (λ fault. L.tells channel.old.link → LeadStops query.now (channel_wire L.Link channel.old) fault (channel_wire L.Link channel.new)) }
+    ensures ok { OnOk result (WhereTold L.Link (Takes (IsLed query.now)) channel.old channel.new) }
+    ensures err { IfErr result
+        (FaultWhereTold L.Link (LeadStops query.now) channel.old channel.new) }
 {
     match lead_of(query) {
         Some(schema) => run_on(channel, payload, &Command::Use(Part::of(schema))),
@@ -96,7 +98,8 @@ fn write_query(payload: &mut Buffer, query: &Query<'_>) -> Result<(), SessionFau
     requires text { QueryHasText query.now }
 
     ensures bytes { OnOk result (payload.new.bytes ≡ query_payload (query_text query.now)) }
-    ensures room { length payload.old.bytes + payload.old.spare ≤ length payload.new.bytes + payload.new.spare }
+    ensures room { length payload.old.bytes + payload.old.spare ≤ length payload.new.bytes
+        + payload.new.spare }
     ensures fault { IfErr result (λ fault. fault ≡ SessionFault.OutOfMemory) }
 {
     payload.clear();
@@ -122,10 +125,13 @@ fn send_query<L: Link>(
 
     ensures keeps { Keeps L.Link channel.old.link channel.new.link result }
     ensures awaits { OnOk result (AwaitsReply L.Link channel.new) }
-    ensures room { length payload.old.bytes + payload.old.spare ≤ length payload.new.bytes + payload.new.spare }
+    ensures room { length payload.old.bytes + payload.old.spare ≤ length payload.new.bytes
+        + payload.new.spare }
     ensures fault { IfErr result EndsStatement }
-    ensures says { OnOk result (Says L.Link 0 (query_payload (query_text query.now)) channel.old channel.new) }
-    ensures err { IfErr result (SaysNone L.Link (query_payload (query_text query.now)) channel.old channel.new) }
+    ensures says { OnOk result
+        (Says L.Link 0 (query_payload (query_text query.now)) channel.old channel.new) }
+    ensures err { IfErr result
+        (SaysNone L.Link (query_payload (query_text query.now)) channel.old channel.new) }
 {
     if let Err(fault) = write_query(payload, query) {
         return Err(fault);
@@ -141,13 +147,17 @@ fn hear_count<L: Link>(
     form: Form,
 ) -> Result<u32, SessionFault>
     requires awaits { AwaitsReply L.Link channel.old }
-    requires server { L.honest channel.old.link → reader.old.ends ≡ (L.served channel.old.link).state.terms.server.ends }
+    requires server { L.honest channel.old.link →
+        reader.old.ends ≡ (L.served channel.old.link).state.terms.server.ends }
 
     ensures keeps { Keeps L.Link channel.old.link channel.new.link result }
-    ensures counted { IfOk result (λ columns. HasCounted L.Link reader.old.ends columns channel.new reader.new) }
+    ensures counted { IfOk result
+        (λ columns. HasCounted L.Link reader.old.ends columns channel.new reader.new) }
     ensures fault { IfErr result (λ fault. FailsStatement L.Link fault channel.new) }
-    ensures heard { IfOk result (λ columns. L.tells channel.old.link → HearsReply (Some (Columns columns)) (channel_wire L.Link channel.old) (channel_wire L.Link channel.new)) }
-    ensures err { IfErr result (λ fault. L.tells channel.old.link → Halts (count form) (channel_wire L.Link channel.old) fault (channel_wire L.Link channel.new)) }
+    ensures heard { IfOk result (λ columns. WhereTold L.Link
+        (HearsReply (Some (Columns columns))) channel.old channel.new) }
+    ensures err { IfErr result
+        (FaultWhereTold L.Link (Halts (count form)) channel.old channel.new) }
 {
     let place = channel.place();
     match hear_reply(channel, reader) {
@@ -187,9 +197,12 @@ fn hear_definition<L: Link>(
     ensures keeps { Keeps L.Link channel.old.link channel.new.link result }
     ensures rest { OnOk result (AwaitsRest L.Link channel.new reader.new) }
     ensures fault { IfErr result EndsStatement }
-    ensures reader { OnOk result (reader.new ≡ record reader.old { awaited = reader.old.awaited - 1 }) }
-    ensures heard { OnOk result (L.tells channel.old.link → HearsDefinition reader.old (channel_wire L.Link channel.old) (channel_wire L.Link channel.new)) }
-    ensures err { IfErr result (λ fault. L.tells channel.old.link → Halts (further form reader.old) (channel_wire L.Link channel.old) fault (channel_wire L.Link channel.new)) }
+    ensures reader { OnOk result
+        (reader.new ≡ record reader.old { awaited = reader.old.awaited - 1 }) }
+    ensures heard { OnOk result
+        (WhereTold L.Link (HearsDefinition reader.old) channel.old channel.new) }
+    ensures err { IfErr result
+        (FaultWhereTold L.Link (Halts (further form reader.old)) channel.old channel.new) }
 {
     let place = channel.place();
     if let Err(fault) = channel.hear() {
@@ -227,7 +240,8 @@ fn describe<L: Link>(
     ensures rest { OnOk result (AwaitsRest L.Link channel.new reader.new) }
     ensures fault { IfErr result EndsStatement }
     ensures reader { OnOk result (reader.new ≡ rows_of ends columns) }
-    ensures describes { L.tells channel.old.link → Describes query.now (columns_counted ends columns) (channel_wire L.Link channel.old) result (channel_wire L.Link channel.new) }
+    ensures describes { L.tells channel.old.link → Describes query.now (columns_counted ends
+        columns) (channel_wire L.Link channel.old) result (channel_wire L.Link channel.new) }
 {
     let form = query.form();
     let mut left = awaited_count(ends, columns);
@@ -254,9 +268,11 @@ fn ask<L: Link>(
 
     ensures keeps { Keeps L.Link channel.old.link channel.new.link result }
     ensures opened { IfOk result (λ columns. HasOpened L.Link ends columns channel.new reader.new) }
-    ensures room { length payload.old.bytes + payload.old.spare ≤ length payload.new.bytes + payload.new.spare }
+    ensures room { length payload.old.bytes + payload.old.spare ≤ length payload.new.bytes
+        + payload.new.spare }
     ensures fault { IfErr result (λ fault. FailsStatement L.Link fault channel.new) }
-    ensures asks { L.tells channel.old.link → Asks ends query.now (channel_wire L.Link channel.old) result (channel_wire L.Link channel.new) }
+    ensures asks { L.tells channel.old.link → Asks ends query.now
+        (channel_wire L.Link channel.old) result (channel_wire L.Link channel.new) }
 {
     if let Err(fault) = lead(channel, payload, query) {
         return Err(fault);
@@ -284,7 +300,8 @@ fn judge(
 ) -> Result<bool, SessionFault>
     requires awaits { AwaitsRow ends reader.old }
 
-    ensures { Judges ends reader.old form message.entry.payload.now message.entry.place result reader.new }
+    ensures { Judges ends reader.old form message.entry.payload.now message.entry.place result
+        reader.new }
 {
     let place = message.place;
     match reader.more(message) {
@@ -313,9 +330,12 @@ fn advance<L: Link>(
     ensures keeps { Keeps L.Link channel.old.link channel.new.link result }
     ensures rest { failed_by result ≡ false → AwaitsRest L.Link channel.new reader.new }
     ensures next { OnOk result (IsHeardNext channel.old channel.new) }
-    ensures reader { MatchResult result (λ is_row. IsAfterRow ends reader.old channel.new.message is_row reader.new) (λ _. reader.new ≡ idle ends) }
-    ensures heard { OnOk result (L.tells channel.old.link → Hears channel.new.message (channel_wire L.Link channel.old) (channel_wire L.Link channel.new)) }
-    ensures err { IfErr result (λ fault. L.tells channel.old.link → Halts (further form reader.old) (channel_wire L.Link channel.old) fault (channel_wire L.Link channel.new)) }
+    ensures reader { MatchResult result (λ is_row. IsAfterRow ends reader.old channel.new.message
+        is_row reader.new) (λ _. reader.new ≡ idle ends) }
+    ensures heard { OnOk result
+        (WhereTold L.Link (Hears channel.new.message) channel.old channel.new) }
+    ensures err { IfErr result
+        (FaultWhereTold L.Link (Halts (further form reader.old)) channel.old channel.new) }
 {
     if let Err(fault) = channel.hear() {
         *reader = RowReader::new(ends);

@@ -4,7 +4,7 @@ ghost use Rattle.wire_forms.specs.Reply.{reply_of};
 ghost use Rattle.statement_forms.specs.Statement.{CommandHasText};
 ghost use Rattle.statement_forms.specs.Text.{command_text};
 ghost use Rattle.my_session.specs.Awaited.{done};
-ghost use Rattle.my_session.specs.Channel.{channel_wire, IsOfChannel};
+ghost use Rattle.my_session.specs.Channel.{channel_wire, IsOfChannel, FaultWhereTold, WhereTold};
 ghost use Rattle.my_session.specs.Halt.{Halts, Misheard};
 ghost use Rattle.my_session.specs.Heard.{HasColumns, HearsReply, ReadsReply, reading_of};
 ghost use Rattle.honest_server.specs.State.{in_session};
@@ -35,8 +35,9 @@ pub(crate) fn hear_reply<L: Link>(
     ensures alive { OnOk result (channel.new.has_failed ≡ false) }
     ensures fault { NeedsNoMemory IsOfChannel result }
     ensures reads { IfOk result (λ reply. ReadsReply reader.old reply reader.new) }
-    ensures heard { IfOk result (λ reply. L.tells channel.old.link → HearsReply reply (channel_wire L.Link channel.old) (channel_wire L.Link channel.new)) }
-    ensures err { IfErr result (λ fault. L.tells channel.old.link → Misheard (channel_wire L.Link channel.old) fault (channel_wire L.Link channel.new)) }
+    ensures heard { IfOk result
+        (λ reply. WhereTold L.Link (HearsReply reply) channel.old channel.new) }
+    ensures err { IfErr result (FaultWhereTold L.Link Misheard channel.old channel.new) }
 {
     let skim = channel.skim()?;
     Ok(read_reply(skim.kept(), reader))
@@ -60,11 +61,13 @@ pub(crate) fn hear_done<L: Link>(channel: &mut Channel<L>, form: Form) -> Result
 
     ensures keeps { Keeps L.Link channel.old.link channel.new.link result }
     ensures done { OnOk result (ServesReply L.Link (Some Reply.Done) channel.old channel.new) }
-    ensures refusal { IfErr result (λ fault. ends_session fault ≡ false → ServesRefusal L.Link channel.old channel.new) }
+    ensures refusal { IfErr result
+        (λ fault. ends_session fault ≡ false → ServesRefusal L.Link channel.old channel.new) }
     ensures alive { failed_by result ≡ false → channel.new.has_failed ≡ false }
     ensures fault { NeedsNoMemory IsOfStatement result }
-    ensures heard { OnOk result (L.tells channel.old.link → HearsReply (Some Reply.Done) (channel_wire L.Link channel.old) (channel_wire L.Link channel.new)) }
-    ensures err { IfErr result (λ fault. L.tells channel.old.link → Halts (done form) (channel_wire L.Link channel.old) fault (channel_wire L.Link channel.new)) }
+    ensures heard { OnOk result
+        (WhereTold L.Link (HearsReply (Some Reply.Done)) channel.old channel.new) }
+    ensures err { IfErr result (FaultWhereTold L.Link (Halts (done form)) channel.old channel.new) }
 {
     let place = channel.place();
     let mut reader = RowReader::new(Ends::Eof);
@@ -82,9 +85,11 @@ fn write_command(payload: &mut Buffer, command: &Command<'_>) -> Result<(), Sess
     requires text { CommandHasText command.now }
 
     ensures bytes { OnOk result (payload.new.bytes ≡ command_payload command.now) }
-    ensures room { length payload.old.bytes + payload.old.spare ≤ length payload.new.bytes + payload.new.spare }
+    ensures room { length payload.old.bytes + payload.old.spare ≤ length payload.new.bytes
+        + payload.new.spare }
     ensures fault { IfErr result (λ fault. fault ≡ SessionFault.OutOfMemory) }
-    ensures memory { 1001 ≤ length payload.old.bytes + payload.old.spare → length (command_text command.now) ≤ 1000 → result ≡ Err SessionFault.OutOfMemory → ⊥ }
+    ensures memory { 1001 ≤ length payload.old.bytes + payload.old.spare →
+        length (command_text command.now) ≤ 1000 → result ≡ Err SessionFault.OutOfMemory → ⊥ }
 {
     payload.clear();
     if payload.reserve(1).is_err() {
@@ -109,10 +114,13 @@ pub(crate) fn run_on<L: Link>(
 
     ensures keeps { Keeps L.Link channel.old.link channel.new.link result }
     ensures rest { failed_by result ≡ false → IsAtRest L.Link in_session channel.new }
-    ensures room { length payload.old.bytes + payload.old.spare ≤ length payload.new.bytes + payload.new.spare }
+    ensures room { length payload.old.bytes + payload.old.spare ≤ length payload.new.bytes
+        + payload.new.spare }
     ensures fault { IfErr result IsOfStatement }
-    ensures memory { 1001 ≤ length payload.old.bytes + payload.old.spare → length (command_text command.now) ≤ 1000 → result ≡ Err SessionFault.OutOfMemory → ⊥ }
-    ensures runs { L.tells channel.old.link → Runs command.now (channel_wire L.Link channel.old) result (channel_wire L.Link channel.new) }
+    ensures memory { 1001 ≤ length payload.old.bytes + payload.old.spare →
+        length (command_text command.now) ≤ 1000 → result ≡ Err SessionFault.OutOfMemory → ⊥ }
+    ensures runs { L.tells channel.old.link → Runs command.now
+        (channel_wire L.Link channel.old) result (channel_wire L.Link channel.new) }
 {
     if let Err(fault) = write_command(payload, command) {
         return Err(fault);

@@ -61,10 +61,13 @@ impl<L: Link> Session<L> {
         user: &[u8],
         password: &[u8],
     ) -> Result<Session<L>, (L, SessionFault)>
-        requires new_link { L.honest link → (L.served link).failed ≡ false → GreetingWaits L.Link link }
+        requires new_link { L.honest link → (L.served link).failed ≡ false →
+            GreetingWaits L.Link link }
 
-        ensures server { MatchResult result (λ session. KeepsServer L.Link link session.link) (λ gone. KeepsServer L.Link link gone.0) }
-        ensures logs_in { MatchResult result (λ session. LoggedIn L.Link user.now password.now link session) (λ gone. LoginStopped L.Link user.now password.now link gone.0 gone.1) }
+        ensures server { MatchResult result (λ session. KeepsServer L.Link link session.link)
+            (λ gone. KeepsServer L.Link link gone.0) }
+        ensures logs_in { MatchResult result (λ session. LoggedIn L.Link user.now password.now link
+            session) (λ gone. LoginStopped L.Link user.now password.now link gone.0 gone.1) }
     {
         let mut channel = Channel::new(alloc, link);
         let mut payload = Buffer::new(alloc);
@@ -93,7 +96,8 @@ impl<L: Link> Session<L> {
         ensures keeps { KeepsSession L.Link self.old self.new result }
         ensures pending { self.new.pending.reading ≡ idle self.new.peer.ends }
         ensures fault { RunFaults command.now result }
-        ensures runs { L.tells self.old.link → Runs command.now (wire_of L.Link self.old) result (wire_of L.Link self.new) }
+        ensures runs { L.tells self.old.link →
+            Runs command.now (wire_of L.Link self.old) result (wire_of L.Link self.new) }
     {
         match run_on(&mut self.channel, &mut self.payload, command) {
             Ok(()) => Ok(()),
@@ -116,7 +120,8 @@ impl<L: Link> Session<L> {
     /// STATUS`. What the greeting said is what an honest server is. Takes no memory.
     pub fn newer(&self) -> bool
         ensures newer { result ≡ self.now.peer.newer }
-        ensures server { L.honest self.now.link → IsPeerOf (L.served self.now.link).state.terms.server self.now.peer }
+        ensures server { L.honest self.now.link →
+            IsPeerOf (L.served self.now.link).state.terms.server self.now.peer }
     {
         self.peer.newer
     }
