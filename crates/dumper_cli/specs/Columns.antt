@@ -11,7 +11,9 @@ use Rattle.dumper_cli.specs.declared.column.Column.{Column}
 
 -- types whose cells are written as text
 abbrev pub text_types : List (List ℕ)
-text_types = codes "char" ∷ codes "varchar" ∷ codes "tinytext" ∷ codes "text" ∷ codes "mediumtext" ∷ codes "longtext" ∷ codes "enum" ∷ codes "set" ∷ codes "date" ∷ codes "time" ∷ codes "datetime" ∷ codes "timestamp" ∷ []
+text_types = codes "char" ∷ codes "varchar" ∷ codes "tinytext" ∷ codes "text" ∷ codes "mediumtext"
+    ∷ codes "longtext" ∷ codes "enum" ∷ codes "set" ∷ codes "date" ∷ codes "time" ∷ codes "datetime"
+    ∷ codes "timestamp" ∷ []
 
 -- the kind of literal that cells of such a column are written as; None for a type that can't be dumped
 abbrev pub kind_of : List ℕ → Option CellKind
@@ -26,12 +28,14 @@ is_utf8 bytes = utf8_valid_len bytes == length bytes
 -- the column of these cells of COLUMN_NAME, DATA_TYPE, COLUMN_TYPE and EXTRA, where it can be dumped
 abbrev pub described : Cell → Cell → Cell → Cell → Option Column
 described (Some name) (Some data_type) (Some column_type) (Some extra) =
-    if is_utf8 name && not (says_generated extra) then option_map (λ kind. record { name = name; kind = kind }) (kind_of data_type) else None
+    if is_utf8 name && not (says_generated extra)
+    then option_map (λ kind. record { name = name; kind = kind }) (kind_of data_type) else None
 described name data_type column_type extra = None
 
 -- the column of a row that begins with these four
 abbrev pub column_of : List Cell → Option Column
-column_of (name ∷ data_type ∷ column_type ∷ extra ∷ more) = described name data_type column_type extra
+column_of (name ∷ data_type ∷ column_type ∷ extra ∷ more) =
+    described name data_type column_type extra
 column_of cells = None
 
 -- a row of the table: as many cells as there are columns, each with a literal of its column's kind
@@ -39,4 +43,5 @@ abbrev pub is_row_of : List Column → List Cell → Bool
 is_row_of [] [] = true
 is_row_of [] (cell ∷ cells) = false
 is_row_of (column ∷ columns) [] = false
-is_row_of (column ∷ columns) (cell ∷ cells) = has_literal column.kind cell && is_row_of columns cells
+is_row_of (column ∷ columns) (cell ∷ cells) =
+    has_literal column.kind cell && is_row_of columns cells

@@ -27,7 +27,9 @@ row_text columns cells = led 40 (literals columns cells) ++ 41 ∷ []
 
 -- what an INSERT begins with: the table and the columns
 abbrev pub insert_head : List ℕ → List Column → List ℕ
-insert_head table columns = codes "INSERT INTO " ++ quoted_name table ++ (32 ∷ []) ++ led 40 (quoted_names columns) ++ codes ") VALUES\n"
+insert_head table columns =
+    codes "INSERT INTO " ++ quoted_name table ++ (32 ∷ []) ++ led 40 (quoted_names columns)
+    ++ codes ") VALUES\n"
 
 -- a file so far: its bytes, and how many of them its last statement has
 pub record Text : Type 0 where
@@ -56,8 +58,10 @@ file_name schema table = schema ++ (46 ∷ []) ++ table ++ codes ".00000.sql"
 -- the files of these rows: one data file, and none where there is no row
 abbrev pub files_of : List ℕ → List ℕ → List (List ℕ) → List File
 files_of name head [] = []
-files_of name head (row ∷ rows) = record { name = name; bytes = (text_of head row rows).bytes ++ codes ";\n" } ∷ []
+files_of name head (row ∷ rows) =
+    record { name = name; bytes = (text_of head row rows).bytes ++ codes ";\n" } ∷ []
 
 -- the files of a table with these columns and rows
 abbrev pub table_files : List ℕ → List ℕ → List Column → List (List Cell) → List File
-table_files schema table columns rows = files_of (file_name schema table) (insert_head table columns) (map (row_text columns) rows)
+table_files schema table columns rows =
+    files_of (file_name schema table) (insert_head table columns) (map (row_text columns) rows)

@@ -40,17 +40,23 @@ module _ {L : Type 0} (of : LinkGhosts L) where
     pub peer : new.peer ≡ old.peer
 
   -- a row came, and with its column there are more
-  pub record ColumnAdded (columns : List Column) (old : SessionView L) (more : List Column) (new : SessionView L) : Type 0 where
+  pub record ColumnAdded (columns : List Column) (old : SessionView L) (more : List Column)
+      (new : SessionView L) : Type 0 where
     pub has_rows : HasRows new
     pub pending : new.pending ≡ old.pending
     pub onward : IsOnward old.place new.place
-    pub reached : (asked : Asked) (start : Start) → Reached of asked (awaits_columns old.pending.reading columns) start old → Reached of asked (awaits_columns new.pending.reading more) start new
+    pub reached : (asked : Asked) (start : Start) →
+        Reached of asked (awaits_columns old.pending.reading columns) start old →
+        Reached of asked (awaits_columns new.pending.reading more) start new
 
   -- all columns came, and there are some
-  pub record ColumnsEnd (columns : List Column) (old : SessionView L) (all : List Column) (new : SessionView L) : Type 0 where
+  pub record ColumnsEnd (columns : List Column) (old : SessionView L) (all : List Column)
+      (new : SessionView L) : Type 0 where
     pub ready : IsReady new
     pub some : 0 < length all
-    pub reached : (asked : Asked) (start : Start) → Reached of asked (awaits_columns old.pending.reading columns) start old → Reached of asked (asks_rows new.peer.ends all) start new
+    pub reached : (asked : Asked) (start : Start) →
+        Reached of asked (awaits_columns old.pending.reading columns) start old →
+        Reached of asked (asks_rows new.peer.ends all) start new
 
   -- after a row about a column, or after the last
   abbrev pub NextColumn : Bool → List Column → SessionView L → List Column → SessionView L → Type 0
@@ -58,39 +64,56 @@ module _ {L : Type 0} (of : LinkGhosts L) where
   NextColumn false columns old all new = ColumnsEnd columns old all new
 
 -- the run stands still, as at a fault of the file: the messages of a front of it were sent
-pub record Stands {L : Type 0} (of : LinkGhosts L) (asked : Asked) (start : Start) (now : L) : Type 0 where
+pub record Stands {L : Type 0} (of : LinkGhosts L) (asked : Asked) (start : Start)
+    (now : L) : Type 0 where
   pub later : start.faults ≤ of.faults now
   pub front : of.tells now → SaidFront asked start.wire (of.told now).sent
 
 module _ {L S : Type 0} (link : LinkGhosts L) (shelf : ShelfGhosts S) where
   -- a row came, and was added to the file
-  pub record RowAdded (columns : List Column) (old : SessionView L) (file : DataFile S shelf) (new : SessionView L) (new_file : DataFile S shelf) : Type 0 where
+  pub record RowAdded (columns : List Column) (old : SessionView L) (file : DataFile S shelf)
+      (new : SessionView L) (new_file : DataFile S shelf) : Type 0 where
     pub has_rows : HasRows new
     pub pending : new.pending ≡ old.pending
     pub onward : IsOnward old.place new.place
     pub cells : List Cell
-    pub reached : (asked : Asked) (rows : List (List Cell)) (start : Start) → Reached link asked (awaits_rows old.pending.reading columns rows) start old → Reached link asked (awaits_rows new.pending.reading columns (rows ++ cells ∷ [])) start new
-    pub writes : (schema table : List ℕ) (rows : List (List Cell)) → IsWriting shelf schema table columns rows file → IsWriting shelf schema table columns (rows ++ cells ∷ []) new_file
+    pub reached : (asked : Asked) (rows : List (List Cell)) (start : Start) →
+        Reached link asked (awaits_rows old.pending.reading columns rows) start old →
+        Reached link asked (awaits_rows new.pending.reading columns (rows ++ cells ∷ [])) start new
+    pub writes : (schema table : List ℕ) (rows : List (List Cell)) →
+        IsWriting shelf schema table columns rows file →
+        IsWriting shelf schema table columns (rows ++ cells ∷ []) new_file
 
   -- all rows came
-  pub record RowsEnd (columns : List Column) (old : SessionView L) (file : DataFile S shelf) (new : SessionView L) (new_file : DataFile S shelf) : Type 0 where
+  pub record RowsEnd (columns : List Column) (old : SessionView L) (file : DataFile S shelf)
+      (new : SessionView L) (new_file : DataFile S shelf) : Type 0 where
     pub ready : IsReady new
-    pub reached : (asked : Asked) (rows : List (List Cell)) (start : Start) → Reached link asked (awaits_rows old.pending.reading columns rows) start old → Reached link asked (is_over columns rows) start new
-    pub writes : (schema table : List ℕ) (rows : List (List Cell)) → IsWriting shelf schema table columns rows file → IsWriting shelf schema table columns rows new_file
+    pub reached : (asked : Asked) (rows : List (List Cell)) (start : Start) →
+        Reached link asked (awaits_rows old.pending.reading columns rows) start old →
+        Reached link asked (is_over columns rows) start new
+    pub writes : (schema table : List ℕ) (rows : List (List Cell)) →
+        IsWriting shelf schema table columns rows file →
+        IsWriting shelf schema table columns rows new_file
 
   -- after a row, or after the last
-  abbrev pub CopiesRow : Bool → List Column → SessionView L → DataFile S shelf → SessionView L → DataFile S shelf → Type 0
+  abbrev pub CopiesRow : Bool → List Column → SessionView L → DataFile S shelf → SessionView L →
+      DataFile S shelf → Type 0
   CopiesRow true columns old file new new_file = RowAdded columns old file new new_file
   CopiesRow false columns old file new new_file = RowsEnd columns old file new new_file
 
   -- why a run stopped that reads rows into a file
   abbrev pub Broke : Asked → Start → S → L → S → DumpFault → Type 0
   Broke asked start before new after (FolderNotEmpty name) = ⊥
-  Broke asked start before new after File = Stands link asked start new × Rose (shelf.faults before) (shelf.faults after)
+  Broke asked start before new after File =
+      Stands link asked start new × Rose (shelf.faults before) (shelf.faults after)
   Broke asked start before new after (InSession fault) = Halted link asked start new fault
 
   -- all rows were read and written to the file
-  pub record Copied (columns : List Column) (old : SessionView L) (file : DataFile S shelf) (new : SessionView L) (new_file : DataFile S shelf) : Type 0 where
+  pub record Copied (columns : List Column) (old : SessionView L) (file : DataFile S shelf)
+      (new : SessionView L) (new_file : DataFile S shelf) : Type 0 where
     pub rows : List (List Cell)
-    pub reached : (asked : Asked) (start : Start) → Reached link asked (awaits_rows old.pending.reading columns []) start old → Reached link asked (is_over columns rows) start new
-    pub writes : (schema table : List ℕ) → IsWriting shelf schema table columns [] file → IsWriting shelf schema table columns rows new_file
+    pub reached : (asked : Asked) (start : Start) →
+        Reached link asked (awaits_rows old.pending.reading columns []) start old →
+        Reached link asked (is_over columns rows) start new
+    pub writes : (schema table : List ℕ) → IsWriting shelf schema table columns [] file →
+        IsWriting shelf schema table columns rows new_file

@@ -18,23 +18,27 @@ use Rattle.dumper_cli.specs.declared.dump.TheConstants.{HOST, PORT}
 
 -- what goes over the site's next link: its peer's conversation is to be heard, and nothing was sent
 abbrev pub next_wire : SiteTold → Wire
-next_wire site = record { sent = []; stream = concatenation (next_of site.conversations); place = 0; id = 0 }
+next_wire site =
+    record { sent = []; stream = concatenation (next_of site.conversations); place = 0; id = 0 }
 
 -- these messages of a dump, and COM_QUIT, which may be missing only where a count rose
-pub record IsSaid (asked : Asked) (columns : List Column) (rose : Type 0) (messages sent : List (List ℕ)) : Type 0 where
+pub record IsSaid (asked : Asked) (columns : List Column) (rose : Type 0)
+    (messages sent : List (List ℕ)) : Type 0 where
   pub are_all : AreAll asked columns messages
   pub quits : (sent ≡ messages ++ QUIT.now ∷ []) ⊎ ((sent ≡ messages) × rose)
 
 -- one link came back, on which these columns and rows were asked for and came: the messages sent are those of the dump that
 -- came to its end by what was heard
-pub record SiteDumped (asked : Asked) (columns : List Column) (rows : List (List Cell)) (rose : Type 0) (old new : SiteTold) : Type 0 where
+pub record SiteDumped (asked : Asked) (columns : List Column) (rows : List (List Cell))
+    (rose : Type 0) (old new : SiteTold) : Type 0 where
   pub sent : List (List ℕ)
   pub told : new ≡ told_after_return (told_after_connect old) sent
   pub heard : IsWhole asked columns rows (next_wire old)
   pub said_all : IsSaid asked columns rose heard.wire.sent sent
 
 -- the table was dumped: the messages, the replies and the files are those of one list of columns and one list of rows
-pub record Dumped (asked : Asked) (site_tells rose : Type 0) (old new : SiteTold) (folder_tells : Type 0) (contents new_contents : List FolderFile) : Type 0 where
+pub record Dumped (asked : Asked) (site_tells rose : Type 0) (old new : SiteTold)
+    (folder_tells : Type 0) (contents new_contents : List FolderFile) : Type 0 where
   pub columns : List Column
   pub rows : List (List Cell)
   pub site : site_tells → SiteDumped asked columns rows rose old new
@@ -46,8 +50,11 @@ pub record Dumped (asked : Asked) (site_tells rose : Type 0) (old new : SiteTold
 pub data SaidAtMost (asked : Asked) (old new : SiteTold) : Type 0 where
   nothing : new ≡ old → SaidAtMost asked old new
   no_link : new ≡ told_after_connect old → SaidAtMost asked old new
-  a_front : {sent : List (List ℕ)} → SaidFront asked (next_wire old) sent → new ≡ told_after_return (told_after_connect old) sent → SaidAtMost asked old new
-  with_quit : {sent : List (List ℕ)} → SaidFront asked (next_wire old) sent → new ≡ told_after_return (told_after_connect old) (sent ++ QUIT.now ∷ []) → SaidAtMost asked old new
+  a_front : {sent : List (List ℕ)} → SaidFront asked (next_wire old) sent →
+      new ≡ told_after_return (told_after_connect old) sent → SaidAtMost asked old new
+  with_quit : {sent : List (List ℕ)} → SaidFront asked (next_wire old) sent →
+      new ≡ told_after_return (told_after_connect old) (sent ++ QUIT.now ∷ []) →
+      SaidAtMost asked old new
 
 -- the folder lists this name first, in the order of the bytes
 pub record IsLeast (name : List ℕ) (files : List FolderFile) : Type 0 where
@@ -55,12 +62,14 @@ pub record IsLeast (name : List ℕ) (files : List FolderFile) : Type 0 where
   pub listed : IsListing (name ∷ others) files
 
 -- why a dump ended
-abbrev pub EndedBy : (List ℕ → Type 0) → Asked → Type 0 → SiteTold → Type 0 → Type 0 → DumpFault → Type 0
+abbrev pub EndedBy : (List ℕ → Type 0) → Asked → Type 0 → SiteTold → Type 0 → Type 0 → DumpFault →
+    Type 0
 EndedBy NotEmpty asked site_tells site site_rose file_rose (FolderNotEmpty name) = NotEmpty name
 EndedBy NotEmpty asked site_tells site site_rose file_rose File = file_rose
 EndedBy NotEmpty asked site_tells site site_rose file_rose (Session Link) = site_rose
 EndedBy NotEmpty asked site_tells site site_rose file_rose (Session OutOfMemory) = Unit {0}
-EndedBy NotEmpty asked site_tells site site_rose file_rose (Session fault) = site_tells → EndsWith asked (next_wire site) fault
+EndedBy NotEmpty asked site_tells site site_rose file_rose (Session fault) =
+    site_tells → EndsWith asked (next_wire site) fault
 
 -- what has to hold where the dump ended after the listing of the folder
 abbrev pub ComesLater : Type 0 → DumpFault → Type 0
@@ -70,7 +79,8 @@ ComesLater P (Session OutOfMemory) = Unit {0}
 ComesLater P (Session fault) = P
 
 -- what was dumped over a link of the site, and the files of the shelf
-pub record SiteTabled (asked : Asked) (site_tells rose : Type 0) (old new : SiteTold) (shelf_tells : Type 0) (made : List FolderFile) : Type 0 where
+pub record SiteTabled (asked : Asked) (site_tells rose : Type 0) (old new : SiteTold)
+    (shelf_tells : Type 0) (made : List FolderFile) : Type 0 where
   pub columns : List Column
   pub rows : List (List Cell)
   pub site : site_tells → SiteDumped asked columns rows rose old new

@@ -56,18 +56,25 @@ column_names columns = map (λ column. column.name) columns
 -- what a dump does at each stage of its course, from the greeting to the end of the rows
 abbrev pub doing : Asked → Stage → Doing
 doing asked awaits_greeting = awaiting greeting
-doing asked (sends_response scramble ends) = answering (response asked.user (password_answer asked.password scramble) ends) (awaits_decision ends)
+doing asked (sends_response scramble ends) =
+    answering (response asked.user (password_answer asked.password scramble) ends)
+    (awaits_decision ends)
 doing asked (awaits_decision ends) = awaiting decision
-doing asked (sends_switch_answer scramble ends) = answering (switch_answer (password_answer asked.password scramble)) (awaits_acceptance ends)
+doing asked (sends_switch_answer scramble ends) =
+    answering (switch_answer (password_answer asked.password scramble)) (awaits_acceptance ends)
 doing asked (awaits_acceptance ends) = awaiting (done Connect)
 doing asked (sends_set_up ends) = commanding (command_payload SetUp) (awaits_set_up ends)
 doing asked (awaits_set_up ends) = awaiting (done Set)
 doing asked (sends_names ends) = commanding (command_payload NamesBinary) (awaits_names ends)
 doing asked (awaits_names ends) = awaiting (done Set)
-doing asked (asks_columns ends) = commanding (query_payload (query_text (ColumnsQuery asked.schema asked.table))) (awaits_column_count ends)
+doing asked (asks_columns ends) =
+    commanding (query_payload (query_text (ColumnsQuery asked.schema asked.table)))
+    (awaits_column_count ends)
 doing asked (awaits_column_count ends) = awaiting (count Select)
 doing asked (awaits_columns reading columns) = awaiting (further Select reading)
-doing asked (asks_rows ends columns) = commanding (query_payload (query_text (Rows (column_names columns) asked.schema asked.table))) (awaits_row_count ends columns)
+doing asked (asks_rows ends columns) =
+    commanding (query_payload (query_text (Rows (column_names columns) asked.schema asked.table)))
+    (awaits_row_count ends columns)
 doing asked (awaits_row_count ends columns) = awaiting (count Select)
 doing asked (awaits_rows reading columns rows) = awaiting (further Select reading)
 doing asked (is_over columns rows) = nothing
@@ -115,8 +122,10 @@ with_columns ends (column ∷ columns) = Some (asks_rows ends (column ∷ column
 
 -- after a message of the result set about the columns: a definition, a row that tells a column, or the end
 abbrev pub after_columns : Reading → List Column → Further → Option Stage
-after_columns reading columns definition = Some (awaits_columns (reading_after reading definition) columns)
-after_columns reading columns (row cells) = with_column (awaits_columns reading) columns (column_of cells)
+after_columns reading columns definition =
+    Some (awaits_columns (reading_after reading definition) columns)
+after_columns reading columns (row cells) =
+    with_column (awaits_columns reading) columns (column_of cells)
 after_columns reading columns end = with_columns reading.ends columns
 after_columns reading columns (refused refusal) = None
 after_columns reading columns garbled = None
@@ -128,8 +137,10 @@ stage_if false stage = None
 
 -- after a message of the result set of the rows: a definition, a row, or the end, at which the dump is over
 abbrev pub after_rows : Reading → List Column → List (List Cell) → Further → Option Stage
-after_rows reading columns rows definition = Some (awaits_rows (reading_after reading definition) columns rows)
-after_rows reading columns rows (row cells) = stage_if (is_row_of columns cells) (awaits_rows reading columns (rows ++ cells ∷ []))
+after_rows reading columns rows definition =
+    Some (awaits_rows (reading_after reading definition) columns rows)
+after_rows reading columns rows (row cells) =
+    stage_if (is_row_of columns cells) (awaits_rows reading columns (rows ++ cells ∷ []))
 after_rows reading columns rows end = Some (is_over columns rows)
 after_rows reading columns rows (refused refusal) = None
 after_rows reading columns rows garbled = None
@@ -146,9 +157,13 @@ stage_after (awaits_set_up ends) message = after_ok (sends_names ends) (reply_of
 stage_after (sends_names ends) message = None
 stage_after (awaits_names ends) message = after_ok (asks_columns ends) (reply_of message)
 stage_after (asks_columns ends) message = None
-stage_after (awaits_column_count ends) message = after_count ends (λ reading. awaits_columns reading []) (reply_of message)
-stage_after (awaits_columns reading columns) message = after_columns reading columns (further_of reading message)
+stage_after (awaits_column_count ends) message =
+    after_count ends (λ reading. awaits_columns reading []) (reply_of message)
+stage_after (awaits_columns reading columns) message =
+    after_columns reading columns (further_of reading message)
 stage_after (asks_rows ends columns) message = None
-stage_after (awaits_row_count ends columns) message = after_count ends (λ reading. awaits_rows reading columns []) (reply_of message)
-stage_after (awaits_rows reading columns rows) message = after_rows reading columns rows (further_of reading message)
+stage_after (awaits_row_count ends columns) message =
+    after_count ends (λ reading. awaits_rows reading columns []) (reply_of message)
+stage_after (awaits_rows reading columns rows) message =
+    after_rows reading columns rows (further_of reading message)
 stage_after (is_over columns rows) message = None

@@ -31,21 +31,28 @@ status_of (Err File) = 4
 status_of (Err (Session fault)) = session_status fault
 
 -- the server's messages or what was to be sent are the cause of a fault with this status
-pub record IsEnding (asked : Asked) (site_tells : Type 0) (site : SiteTold) (status : ℕ) : Type 0 where
+pub record IsEnding (asked : Asked) (site_tells : Type 0) (site : SiteTold)
+    (status : ℕ) : Type 0 where
   pub fault : SessionFault
   pub status_is : session_status fault ≡ status
   pub ends : site_tells → EndsWith asked (next_wire site) fault
 
 -- each status but 0, 2 and 5 has its cause here: those of 0 and 2 are said apart, and want of memory has none
-pub record IsCaused (asked : Asked) (site_tells : Type 0) (site : SiteTold) (site_rose folder_tells : Type 0) (contents : List FolderFile) (folder_rose : Type 0) (status : ℕ) : Type 0 where
+pub record IsCaused (asked : Asked) (site_tells : Type 0) (site : SiteTold)
+    (site_rose folder_tells : Type 0) (contents : List FolderFile) (folder_rose : Type 0)
+    (status : ℕ) : Type 0 where
   pub fine : status ≤ 5
   -- the folder lists a name, or a message came or was to be sent at which a dump ends so
-  pub one : status ≡ 1 → ((name : List ℕ) × (folder_tells → IsLeast name contents)) ⊎ IsEnding asked site_tells site 1
+  pub one : status ≡ 1 → ((name : List ℕ) × (folder_tells → IsLeast name contents))
+      ⊎ IsEnding asked site_tells site 1
   -- an ERR came, in the greeting's place or in answer to a message
-  pub three : status ≡ 3 → (form : Form) × (refusal : Refusal) × (site_tells → EndsWith asked (next_wire site) (Refused form refusal))
+  pub three : status ≡ 3 → (form : Form) × (refusal : Refusal)
+      × (site_tells → EndsWith asked (next_wire site) (Refused form refusal))
   -- the site's or the folder's count of faults rose in this call
   pub four : status ≡ 4 → site_rose ⊎ folder_rose
 
 -- a folder that isn't empty is refused, but where it failed or memory ran out
 abbrev pub RefusesFull : Type 0 → Type 0 → List FolderFile → ℕ → Type 0
-RefusesFull folder_tells folder_rose contents status = folder_tells → (contents ≡ [] → ⊥) → (status ≡ 1) ⊎ (((status ≡ 4) × folder_rose) ⊎ (status ≡ 5))
+RefusesFull folder_tells folder_rose contents status =
+    folder_tells → (contents ≡ [] → ⊥) → (status ≡ 1)
+    ⊎ (((status ≡ 4) × folder_rose) ⊎ (status ≡ 5))

@@ -32,12 +32,18 @@ Unspelled columns cells place fault = ⊥
 
 module _ {S : Type 0} (shelf : Ghosts S) where
   -- the row was added to the file
-  pub record AddsRow (columns : List Column) (cells : List Cell) (file new_file : DataFile S shelf) : Type 0 where
+  pub record AddsRow (columns : List Column) (cells : List Cell)
+      (file new_file : DataFile S shelf) : Type 0 where
     pub fits : is_row_of columns cells ≡ true
-    pub writes : (schema table : List ℕ) (rows : List (List Cell)) → IsWriting shelf schema table columns rows file → IsWriting shelf schema table columns (rows ++ cells ∷ []) new_file
+    pub writes : (schema table : List ℕ) (rows : List (List Cell)) →
+        IsWriting shelf schema table columns rows file →
+        IsWriting shelf schema table columns (rows ++ cells ∷ []) new_file
 
   -- why it wasn't
-  abbrev pub Unwritten : List Column → List Cell → ℕ → DataFile S shelf → DataFile S shelf → DumpFault → Type 0
+  abbrev pub Unwritten : List Column → List Cell → ℕ → DataFile S shelf → DataFile S shelf →
+      DumpFault → Type 0
   Unwritten columns cells place file new_file (FolderNotEmpty name) = ⊥
-  Unwritten columns cells place file new_file File = Rose (shelf.faults file.shelf) (shelf.faults new_file.shelf)
-  Unwritten columns cells place file new_file (InSession fault) = Unspelled columns cells place fault
+  Unwritten columns cells place file new_file File =
+      Rose (shelf.faults file.shelf) (shelf.faults new_file.shelf)
+  Unwritten columns cells place file new_file (InSession fault) =
+      Unspelled columns cells place fault

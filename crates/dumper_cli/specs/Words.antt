@@ -14,11 +14,14 @@ pub record Asked : Type 0 where
 
 -- a letter, a digit or `_` of ASCII
 abbrev pub is_word_byte : ℕ → Bool
-is_word_byte byte = (nat_le 97 byte && nat_le byte 122) || ((nat_le 65 byte && nat_le byte 90) || (is_digit byte || byte == 95))
+is_word_byte byte =
+    (nat_le 97 byte && nat_le byte 122) ||
+    ((nat_le 65 byte && nat_le byte 90) || (is_digit byte || byte == 95))
 
 -- one to a hundred letters, digits and `_`
 abbrev pub is_plain_word : List ℕ → Bool
-is_plain_word word = nat_le 1 (length word) && nat_le (length word) 100 && list_all is_word_byte word
+is_plain_word word =
+    nat_le 1 (length word) && nat_le (length word) 100 && list_all is_word_byte word
 
 -- a password or a path isn't empty and doesn't begin with `-`
 abbrev pub is_free_word : List ℕ → Bool
@@ -27,7 +30,9 @@ is_free_word (byte ∷ bytes) = not (byte == 45)
 
 -- the four options that every command line has, in their order
 abbrev pub are_options : List ℕ → List ℕ → List ℕ → List ℕ → Bool
-are_options a b c d = bytes_eq a (codes "-u") && bytes_eq b (codes "-B") && bytes_eq c (codes "-T") && bytes_eq d (codes "-o")
+are_options a b c d =
+    bytes_eq a (codes "-u") && bytes_eq b (codes "-B") && bytes_eq c (codes "-T") && bytes_eq d
+    (codes "-o")
 
 -- the option of a password, and the password
 abbrev pub is_password : List ℕ → List ℕ → Bool
@@ -35,7 +40,9 @@ is_password option password = bytes_eq option (codes "-p") && is_free_word passw
 
 -- each word has its form
 abbrev pub are_words : Asked → Bool
-are_words asked = is_plain_word asked.user && is_plain_word asked.schema && is_plain_word asked.table && is_free_word asked.path
+are_words asked =
+    is_plain_word asked.user && is_plain_word asked.schema && is_plain_word asked.table &&
+    is_free_word asked.path
 
 -- what is asked for, where the words have their forms
 abbrev pub asked_if : Bool → Asked → Option Asked
@@ -44,12 +51,18 @@ asked_if false asked = None
 
 -- the eight words `-u USER -B SCHEMA -T TABLE -o PATH`
 abbrev pub without_password : List (List ℕ) → Option Asked
-without_password (a ∷ user ∷ b ∷ schema ∷ c ∷ table ∷ d ∷ path ∷ []) = asked_if (are_options a b c d && are_words (record { user = user; password = []; schema = schema; table = table; path = path })) (record { user = user; password = []; schema = schema; table = table; path = path })
+without_password (a ∷ user ∷ b ∷ schema ∷ c ∷ table ∷ d ∷ path ∷ []) =
+    asked_if (are_options a b c d && are_words
+    (record { user = user; password = []; schema = schema; table = table; path = path }))
+    (record { user = user; password = []; schema = schema; table = table; path = path })
 without_password words = None
 
 -- the same with `-p PASSWORD` after the user
 abbrev pub with_password : List (List ℕ) → Option Asked
-with_password (a ∷ user ∷ p ∷ password ∷ b ∷ schema ∷ c ∷ table ∷ d ∷ path ∷ []) = asked_if (are_options a b c d && is_password p password && are_words (record { user = user; password = password; schema = schema; table = table; path = path })) (record { user = user; password = password; schema = schema; table = table; path = path })
+with_password (a ∷ user ∷ p ∷ password ∷ b ∷ schema ∷ c ∷ table ∷ d ∷ path ∷ []) =
+    asked_if (are_options a b c d && is_password p password && are_words
+    (record { user = user; password = password; schema = schema; table = table; path = path }))
+    (record { user = user; password = password; schema = schema; table = table; path = path })
 with_password words = None
 
 -- exactly the eight words `-u USER -B SCHEMA -T TABLE -o PATH`, or ten with `-p PASSWORD` after the user

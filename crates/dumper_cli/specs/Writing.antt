@@ -13,7 +13,8 @@ pub record Holds {S : Type 0} (of : Ghosts S) (text : Text) (file : DataFile S o
   pub front : List ℕ
   pub bytes : text.bytes ≡ front ++ file.waiting.bytes
   pub appended : of.size file.shelf ≡ length front
-  pub told : of.tells file.shelf → (of.told file.shelf).begun ≡ record { name = file.name; bytes = front }
+  pub told : of.tells file.shelf →
+      (of.told file.shelf).begun ≡ record { name = file.name; bytes = front }
 
 -- the file has these rows, and isn't begun where there is none
 abbrev pub HoldsRows : {S : Type 0} (of : Ghosts S) → List (List ℕ) → DataFile S of → Type 0
@@ -21,7 +22,8 @@ HoldsRows of [] file = (file.begun ≡ false) × (file.waiting.bytes ≡ [])
 HoldsRows of (row ∷ rows) file = Holds of (text_of file.head.bytes row rows) file
 
 -- these rows of the table were written to the file
-pub record IsWriting {S : Type 0} (of : Ghosts S) (schema table : List ℕ) (columns : List Column) (rows : List (List Cell)) (file : DataFile S of) : Type 0 where
+pub record IsWriting {S : Type 0} (of : Ghosts S) (schema table : List ℕ) (columns : List Column)
+    (rows : List (List Cell)) (file : DataFile S of) : Type 0 where
   pub name : file.name ≡ file_name schema table
   pub head : file.head.bytes ≡ insert_head table columns
   pub text : HoldsRows of (map (row_text columns) rows) file

@@ -39,7 +39,8 @@ pub record AllRowsCome : Type 0 where
 
 -- a query that asks for the columns in another order than the table's has no answer
 pub record ColumnsAreAskedForInOrder : Type 0 where
-  pub refused : (rows : List (List Cell)) → Answers database (Rows (codes "a" ∷ key ∷ []) schema table) rows → ⊥
+  pub refused : (rows : List (List Cell)) →
+      Answers database (Rows (codes "a" ∷ key ∷ []) schema table) rows → ⊥
 
 -- the first key was skipped, or both were; or it isn't above the bound
 pub record KeysAreSkipped : Type 0 where
@@ -64,13 +65,18 @@ pub record EachSchemaIsTold : Type 0 where
 
 -- the row of a column: its name and its types
 abbrev pub column_row : List ℕ → List ℕ → List ℕ → List Cell
-column_row name data_type column_type = Value name ∷ Value data_type ∷ Value column_type ∷ Value [] ∷ []
+column_row name data_type column_type =
+    Value name ∷ Value data_type ∷ Value column_type ∷ Value [] ∷ []
 
 -- columns are told with their types, and none are of a table that isn't there
 pub record ColumnsAreToldWithTheirTypes : Type 0 where
-  pub allowed : Answers database (Columns schema table) (column_row key (codes "int") (codes "int") ∷ column_row (codes "a") (codes "varchar") (codes "varchar(9)") ∷ [])
+  pub allowed : Answers database (Columns schema table)
+      (column_row key (codes "int") (codes "int")
+      ∷ column_row (codes "a") (codes "varchar") (codes "varchar(9)") ∷ [])
   pub none : Answers database (Columns schema no_table) []
-  pub refused : Answers database (Columns schema table) (column_row key (codes "int") (codes "int unsigned") ∷ column_row (codes "a") (codes "varchar") (codes "varchar(9)") ∷ []) → ⊥
+  pub refused : Answers database (Columns schema table)
+      (column_row key (codes "int") (codes "int unsigned")
+      ∷ column_row (codes "a") (codes "varchar") (codes "varchar(9)") ∷ []) → ⊥
 
 -- a column of an enum
 abbrev pub choice : Column
@@ -82,8 +88,11 @@ computed = record { name = codes "g"; data_type = codes "int"; unsigned = true; 
 
 -- a type with the word 'unsigned' tells the sign of plain integers alone
 pub record TheSignOfPlainIntegersIsTold : Type 0 where
-  pub allowed : IsColumnRow choice (column_row (codes "e") (codes "enum") (codes "enum('unsigned')"))
-  pub generated : IsColumnRow computed (Value (codes "g") ∷ Value (codes "int") ∷ Value (codes "int") ∷ Value (codes "VIRTUAL GENERATED") ∷ [])
+  pub allowed : IsColumnRow choice
+      (column_row (codes "e") (codes "enum") (codes "enum('unsigned')"))
+  pub generated : IsColumnRow computed
+      (Value (codes "g") ∷ Value (codes "int") ∷ Value (codes "int")
+      ∷ Value (codes "VIRTUAL GENERATED") ∷ [])
   pub refused : IsColumnRow id (column_row key (codes "int") (codes "int unsigned")) → ⊥
 
 -- the key's column is told
@@ -98,7 +107,8 @@ pub record NoTriggersAreTold : Type 0 where
 
 -- a table's text is shown, and a query for that of one that isn't there has no answer
 pub record ATextIsShown : Type 0 where
-  pub allowed : Answers database (CreateTable schema table) ((Value table ∷ Value table_text ∷ []) ∷ [])
+  pub allowed : Answers database (CreateTable schema table)
+      ((Value table ∷ Value table_text ∷ []) ∷ [])
   pub withheld : Answers database (CreateTable schema table) ((Value table ∷ Null ∷ []) ∷ []) → ⊥
   pub refused : (rows : List (List Cell)) → Answers database (CreateTable schema no_table) rows → ⊥
 

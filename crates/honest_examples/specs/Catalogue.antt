@@ -26,11 +26,24 @@ numbered = codes "n"
 
 -- its text, with what stands after the engine: nothing, or the counter
 abbrev pub text_with : List ℕ → List ℕ
-text_with after = codes "CREATE TABLE `n` (`id` int NOT NULL AUTO_INCREMENT, PRIMARY KEY (`id`)) ENGINE=InnoDB" ++ after
+text_with after =
+    codes "CREATE TABLE `n` (`id` int NOT NULL AUTO_INCREMENT, PRIMARY KEY (`id`)) ENGINE=InnoDB"
+    ++ after
 
 -- the table, as it stands in a database, with this after the engine
 abbrev pub with_counter : List ℕ → Object
-with_counter after = record { kind = Table; schema = schema; name = numbered; text = text_with after; settings = None; columns = id ∷ []; key = Some 0; rank = 0; needs = [] }
+with_counter after =
+    record {
+      kind = Table;
+      schema = schema;
+      name = numbered;
+      text = text_with after;
+      settings = None;
+      columns = id ∷ [];
+      key = Some 0;
+      rank = 0;
+      needs = [];
+    }
 
 -- the option that says that the counter stands at 5
 abbrev pub five : List ℕ
@@ -50,11 +63,13 @@ put_number digits = Put schema numbered (of_number digits)
 
 -- the table with the row of this number alone
 abbrev pub row_of_number : List ℕ → TableRows
-row_of_number digits = record { table = record { schema = schema; name = numbered }; rows = of_number digits ∷ [] }
+row_of_number digits =
+    record { table = record { schema = schema; name = numbered }; rows = of_number digits ∷ [] }
 
 -- the schema and such a table, with the rows of these numbers
 abbrev pub counted : List ℕ → List (List ℕ) → Database
-counted after numbers = record { objects = the_schema ∷ with_counter after ∷ []; rows = map row_of_number numbers }
+counted after numbers =
+    record { objects = the_schema ∷ with_counter after ∷ []; rows = map row_of_number numbers }
 
 -- the table is dropped, made with what then stands after the engine, and given these rows
 abbrev pub anew : List ℕ → List (List ℕ) → List Change
@@ -89,7 +104,8 @@ counting_link = link counting (Some schema)
 
 -- an INSERT of this number
 abbrev pub insert_number : List ℕ → Statement
-insert_number digits = SomeCommand (Insert (codes "INSERT INTO `n` (`id`) VALUES\n(" ++ digits ++ codes ")"))
+insert_number digits =
+    SomeCommand (Insert (codes "INSERT INTO `n` (`id`) VALUES\n(" ++ digits ++ codes ")"))
 
 -- the option that says that the counter stands at 6
 abbrev pub six : List ℕ
@@ -97,6 +113,9 @@ six = codes " AUTO_INCREMENT=6"
 
 -- A number under the counter is put alone. With one at the counter the counter rises.
 pub record ANumberAtTheCounterRaisesIt : Type 0 where
-  pub under : Serves plainly counting_link (insert_number (codes "3")) done (with_own counting_link (unmarked (put_number (codes "3") ∷ [])))
-  pub at : Serves plainly counting_link (insert_number (codes "5")) done (with_own counting_link (unmarked (anew six (codes "4" ∷ []) ++ put_number (codes "5") ∷ [])))
-  pub alone : Serves plainly counting_link (insert_number (codes "5")) done (with_own counting_link (unmarked (put_number (codes "5") ∷ []))) → ⊥
+  pub under : Serves plainly counting_link (insert_number (codes "3")) done
+      (with_own counting_link (unmarked (put_number (codes "3") ∷ [])))
+  pub at : Serves plainly counting_link (insert_number (codes "5")) done
+      (with_own counting_link (unmarked (anew six (codes "4" ∷ []) ++ put_number (codes "5") ∷ [])))
+  pub alone : Serves plainly counting_link (insert_number (codes "5")) done
+      (with_own counting_link (unmarked (put_number (codes "5") ∷ []))) → ⊥

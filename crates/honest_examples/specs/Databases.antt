@@ -12,7 +12,8 @@ pub record TheHistoryMakesTheDatabase : Type 0 where
 -- no two rows have one key: a second row of a key fits, but the database isn't well-formed with it
 pub record NoTwoRowsHaveOneKey : Type 0 where
   pub allowed : IsWellFormed database
-  pub fits : db (history ++ unmarked (put one_again ∷ []) ∷ []) ≡ Some (with_row database schema table one_again)
+  pub fits : db (history ++ unmarked (put one_again ∷ []) ∷ [])
+      ≡ Some (with_row database schema table one_again)
   pub refused : IsWellFormed (with_row database schema table one_again) → ⊥
 
 -- nor is it with a key that is no integer

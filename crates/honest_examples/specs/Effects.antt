@@ -39,14 +39,19 @@ abbrev pub worked : State
 worked = link history (Some schema)
 
 -- the statement may be answered so, and by no ERR
-pub record IsServed (state : State) (statement : Statement) (reply : Reply) (new : State) : Type 0 where
+pub record IsServed (state : State) (statement : Statement) (reply : Reply)
+    (new : State) : Type 0 where
   pub served : Serves plainly state statement reply new
-  pub no_err : (refusal : Refusal) (other : State) → Serves plainly state statement (refused [] refusal) other → ⊥
+  pub no_err : (refusal : Refusal) (other : State) →
+      Serves plainly state statement (refused [] refusal) other → ⊥
 
 -- it may be answered by any ERR, and by nothing else
 pub record IsRefused (state : State) (statement : Statement) : Type 0 where
-  pub err : (refusal : Refusal) → Serves plainly state statement (refused [] refusal) (with_error state (Some (form_of statement)) refusal)
-  pub nothing_else : (reply : Reply) (new : State) → IsNoErr reply → Serves plainly state statement reply new → ⊥
+  pub err : (refusal : Refusal) →
+      Serves plainly state statement (refused [] refusal)
+      (with_error state (Some (form_of statement)) refusal)
+  pub nothing_else : (reply : Reply) (new : State) → IsNoErr reply →
+      Serves plainly state statement reply new → ⊥
 
 -- an INSERT into the worked table, with these rows
 abbrev pub insert : List ℕ → Statement
@@ -83,14 +88,17 @@ begun = record worked { pending = Some [] }
 -- without changes.
 pub record AnEmptyTransactionEndsUnderTheReadLock : Type 0 where
   pub allowed : IsServed (frozen begun) (SomeCommand Commit) done (frozen worked)
-  pub nothing_else : (new : State) → Serves plainly (frozen begun) (SomeCommand Commit) done new → new ≡ frozen worked
+  pub nothing_else : (new : State) → Serves plainly (frozen begun) (SomeCommand Commit) done new →
+      new ≡ frozen worked
   pub started : IsServed (frozen begun) (SomeCommand Start) done (frozen begun)
   pub marked : Serves plainly begun (SomeCommand Commit) done (with_own begun (unmarked []))
-  pub refused : Serves plainly (frozen begun) (SomeCommand Commit) done (with_own (frozen begun) (unmarked [])) → ⊥
+  pub refused : Serves plainly (frozen begun) (SomeCommand Commit) done
+      (with_own (frozen begun) (unmarked [])) → ⊥
 
 -- a table is made in the current schema, where there is one, and the table isn't there yet
 pub record ATableIsMadeInTheCurrentSchema : Type 0 where
-  pub allowed : IsServed (link schema_alone (Some schema)) (SomeCommand (Create table_text)) done (with_own (link schema_alone (Some schema)) (unmarked (Make the_table ∷ [])))
+  pub allowed : IsServed (link schema_alone (Some schema)) (SomeCommand (Create table_text)) done
+      (with_own (link schema_alone (Some schema)) (unmarked (Make the_table ∷ [])))
   pub refused : IsRefused (link schema_alone None) (SomeCommand (Create table_text))
   pub there : IsRefused (link no_rows (Some schema)) (SomeCommand (Create table_text))
 
@@ -100,8 +108,10 @@ guarded state = record state { guarded = true }
 
 -- the backup lock lets rows be put, and nothing be made
 pub record TheBackupLockStopsACreate : Type 0 where
-  pub allowed : IsServed (guarded worked) (insert (codes "(3,'c')")) done (with_three (guarded worked))
-  pub refused : IsRefused (guarded (link schema_alone (Some schema))) (SomeCommand (Create table_text))
+  pub allowed : IsServed (guarded worked) (insert (codes "(3,'c')")) done
+      (with_three (guarded worked))
+  pub refused : IsRefused (guarded (link schema_alone (Some schema)))
+      (SomeCommand (Create table_text))
 
 -- a schema is used where it is there
 pub record ASchemaIsUsedWhereItIsThere : Type 0 where
@@ -115,12 +125,15 @@ viewing = record worked { view = Some no_rows }
 -- and it shows none
 pub record ASelectShowsTheSnapshot : Type 0 where
   pub allowed : IsServed viewing (SomeQuery (Rows columns schema table)) (rows []) viewing
-  pub refused : (new : State) → Serves plainly viewing (SomeQuery (Rows columns schema table)) (rows (one ∷ two ∷ [])) new → ⊥
+  pub refused : (new : State) →
+      Serves plainly viewing (SomeQuery (Rows columns schema table)) (rows (one ∷ two ∷ [])) new → ⊥
 
 -- a snapshot shows what was seen, and an open transaction is committed before
 pub record ASnapshotShowsWhatWasSeen : Type 0 where
-  pub allowed : IsServed worked (SomeCommand StartSnapshot) done (record worked { view = Some history })
-  pub commits : IsServed opened (SomeCommand StartSnapshot) done (record (with_three opened) { view = Some (history ++ unmarked (put three ∷ []) ∷ []) })
+  pub allowed : IsServed worked (SomeCommand StartSnapshot) done
+      (record worked { view = Some history })
+  pub commits : IsServed opened (SomeCommand StartSnapshot) done
+      (record (with_three opened) { view = Some (history ++ unmarked (put three ∷ []) ∷ []) })
   pub older : Serves plainly worked (SomeCommand StartSnapshot) done viewing → ⊥
   pub refused : IsRefused (frozen opened) (SomeCommand StartSnapshot)
 
@@ -131,9 +144,16 @@ pub record ARollbackDropsTheTransaction : Type 0 where
 
 -- the same link to a site of a server that answers ERR as it likes
 abbrev pub unwilling : State
-unwilling = record worked { terms = record worked.terms { server = record server { willing = false } } }
+unwilling = record worked {
+  terms =
+      record worked.terms { server = record server { willing = false } };
+}
 
 -- an ERR may come after the first rows of an answer, and after no others
 pub record AnErrBreaksOffAnAnswer : Type 0 where
-  pub allowed : (refusal : Refusal) → Serves plainly unwilling (SomeQuery (Rows columns schema table)) (refused (two ∷ []) refusal) (with_error unwilling (Some Select) refusal)
-  pub refused : (refusal : Refusal) (new : State) → Serves plainly unwilling (SomeQuery (Rows columns schema table)) (refused (three ∷ []) refusal) new → ⊥
+  pub allowed : (refusal : Refusal) →
+      Serves plainly unwilling (SomeQuery (Rows columns schema table)) (refused (two ∷ []) refusal)
+      (with_error unwilling (Some Select) refusal)
+  pub refused : (refusal : Refusal) (new : State) →
+      Serves plainly unwilling (SomeQuery (Rows columns schema table))
+      (refused (three ∷ []) refusal) new → ⊥

@@ -34,7 +34,12 @@ event = codes "e"
 
 -- the settings of a session in which no time zone was set
 abbrev pub settings : Settings
-settings = record { sql_mode = codes "ANSI"; client = codes "utf8mb4"; collation = codes "utf8mb4_bin"; zone = [] }
+settings = record {
+  sql_mode = codes "ANSI";
+  client = codes "utf8mb4";
+  collation = codes "utf8mb4_bin";
+  zone = [];
+}
 
 -- the same settings with this time zone
 abbrev pub in_zone : List ℕ → Settings
@@ -46,7 +51,18 @@ system = codes "SYSTEM"
 
 -- the event that is made under these settings
 abbrev pub made_under : Settings → Object
-made_under made = record { kind = Event; schema = schema; name = event; text = event_text; settings = Some made; columns = []; key = None; rank = 0; needs = [] }
+made_under made =
+    record {
+      kind = Event;
+      schema = schema;
+      name = event;
+      text = event_text;
+      settings = Some made;
+      columns = [];
+      key = None;
+      rank = 0;
+      needs = [];
+    }
 
 -- the event that is made in the server's own time zone
 abbrev pub the_event : Object
@@ -58,11 +74,16 @@ making object = with_own (with_settings (in_zone system)) (unmarked (Make object
 
 -- An event is made under the time zone that was set last, and no other object has one. USE clears it.
 pub record AnEventIsMadeInATimeZone : Type 0 where
-  pub set : IsServed (with_settings settings) (SomeCommand (TimeZone system)) done (with_settings (in_zone system))
-  pub allowed : IsServed (with_settings (in_zone system)) (SomeCommand (Create event_text)) done (making the_event)
-  pub of_procedure : IsServed (with_settings (in_zone system)) (SomeCommand (Create procedure_text)) done (making the_procedure)
-  pub cleared : IsServed (with_settings (in_zone system)) (SomeCommand (Use schema)) done (with_settings no_settings)
-  pub refused : Serves plainly (with_settings (in_zone system)) (SomeCommand (Create event_text)) done (making (made_under settings)) → ⊥
+  pub set : IsServed (with_settings settings) (SomeCommand (TimeZone system)) done
+      (with_settings (in_zone system))
+  pub allowed : IsServed (with_settings (in_zone system)) (SomeCommand (Create event_text)) done
+      (making the_event)
+  pub of_procedure : IsServed (with_settings (in_zone system))
+      (SomeCommand (Create procedure_text)) done (making the_procedure)
+  pub cleared : IsServed (with_settings (in_zone system)) (SomeCommand (Use schema)) done
+      (with_settings no_settings)
+  pub refused : Serves plainly (with_settings (in_zone system))
+      (SomeCommand (Create event_text)) done (making (made_under settings)) → ⊥
 
 -- the text that sets the time zone of UTC
 abbrev pub utc : List ℕ
@@ -74,7 +95,8 @@ pub record TheTextOfUtcIsOfTwoStatements : Type 0 where
   pub second : IsTextOf (SomeCommand (TimeZone (codes "+00:00"))) utc
   pub allowed : IsReadAs utc (SomeCommand (TimeZone (codes "+00:00")))
   pub refused : IsReadAs utc (SomeCommand TimeZoneUtc) → ⊥
-  pub one_effect : (state new : State) → Effect state TimeZoneUtc new ↔ Effect state (TimeZone (codes "+00:00")) new
+  pub one_effect : (state new : State) → Effect state TimeZoneUtc new
+      ↔ Effect state (TimeZone (codes "+00:00")) new
 
 -- the schema with the event and a procedure
 abbrev pub with_event : Database
@@ -96,18 +118,29 @@ reading = link after_event (Some schema)
 
 -- such a link to a server that answers ERR as it likes
 abbrev pub unwilling : State
-unwilling = record reading { terms = record reading.terms { server = record server { willing = false } } }
+unwilling = record reading {
+  terms =
+      record reading.terms { server = record server { willing = false } };
+}
 
 -- the row that SHOW CREATE EVENT shows, with this zone and this text
 abbrev pub shown : List ℕ → Cell → List (List Cell)
-shown zone text = (Value event ∷ Value (codes "ANSI") ∷ Value zone ∷ text ∷ Value (codes "utf8mb4") ∷ Value (codes "utf8mb4_bin") ∷ []) ∷ []
+shown zone text =
+    (Value event ∷ Value (codes "ANSI") ∷ Value zone ∷ text ∷ Value (codes "utf8mb4")
+    ∷ Value (codes "utf8mb4_bin") ∷ []) ∷ []
 
 -- The text is shown with the settings and the time zone. Only a server that isn't willing may withhold it.
 pub record AnEventIsShownWithItsTimeZone : Type 0 where
-  pub allowed : IsServed reading (SomeQuery (CreateEvent schema event)) (rows (shown system (Value event_text))) reading
-  pub withheld : Serves plainly unwilling (SomeQuery (CreateEvent schema event)) (rows (shown system Null)) unwilling
-  pub kept : (new : State) → Serves plainly reading (SomeQuery (CreateEvent schema event)) (rows (shown system Null)) new → ⊥
-  pub refused : (new : State) → Serves plainly reading (SomeQuery (CreateEvent schema event)) (rows (shown [] (Value event_text))) new → ⊥
+  pub allowed : IsServed reading (SomeQuery (CreateEvent schema event))
+      (rows (shown system (Value event_text))) reading
+  pub withheld : Serves plainly unwilling (SomeQuery (CreateEvent schema event))
+      (rows (shown system Null)) unwilling
+  pub kept : (new : State) →
+      Serves plainly reading (SomeQuery (CreateEvent schema event)) (rows (shown system Null)) new →
+      ⊥
+  pub refused : (new : State) →
+      Serves plainly reading (SomeQuery (CreateEvent schema event))
+      (rows (shown [] (Value event_text))) new → ⊥
 
 -- an event is dropped where it is there, and its schema can't be while it is
 pub record AnEventIsDropped : Type 0 where
@@ -118,4 +151,9 @@ pub record AnEventIsDropped : Type 0 where
 -- a procedure with a time zone isn't well-formed, and an event with one is
 pub record OnlyAnEventHasATimeZone : Type 0 where
   pub allowed : IsWellFormed (record { objects = the_schema ∷ the_event ∷ []; rows = [] })
-  pub refused : IsWellFormed (record { objects = the_schema ∷ record the_procedure { settings = Some (in_zone system) } ∷ []; rows = [] }) → ⊥
+  pub refused : IsWellFormed
+      (record {
+        objects = the_schema ∷ record the_procedure { settings = Some (in_zone system) }
+            ∷ [];
+        rows = [];
+      }) → ⊥

@@ -35,7 +35,9 @@ refusal = record { code = 1105; state = codes "HY000"; message = kept_text (code
 
 -- the definition of the only column of a result set, SCHEMA_NAME
 abbrev pub definition : List ℕ
-definition = 3 ∷ codes "def" ++ (0 ∷ 0 ∷ 0 ∷ 11 ∷ codes "SCHEMA_NAME" ++ (0 ∷ 12 ∷ 45 ∷ 0 ∷ 0 ∷ 1 ∷ 0 ∷ 0 ∷ 253 ∷ 1 ∷ 0 ∷ 0 ∷ 0 ∷ 0 ∷ []))
+definition = 3 ∷ codes "def"
+    ++ (0 ∷ 0 ∷ 0 ∷ 11 ∷ codes "SCHEMA_NAME"
+    ++ (0 ∷ 12 ∷ 45 ∷ 0 ∷ 0 ∷ 1 ∷ 0 ∷ 0 ∷ 253 ∷ 1 ∷ 0 ∷ 0 ∷ 0 ∷ 0 ∷ []))
 
 -- an EOF packet without warnings
 abbrev pub eof : List ℕ
@@ -54,14 +56,18 @@ pub record ACommandIsAnsweredByOneMessage : Type 0 where
   pub allowed : Spells server (SomeCommand Commit) done (ok ∷ [])
   pub err_allowed : Spells server (SomeCommand Commit) (refused [] refusal) (err ∷ [])
   pub err_is_no_ok : Spells server (SomeCommand Commit) done (err ∷ []) → ⊥
-  pub refused : (of : Server) (reply : Reply) (columns : ℕ) (found : List (List SentCell)) (messages : List (List ℕ)) → IsResultSet of.ends columns found messages → Spells of (SomeCommand Commit) reply messages → ⊥
+  pub refused : (of : Server) (reply : Reply) (columns : ℕ) (found : List (List SentCell))
+      (messages : List (List ℕ)) → IsResultSet of.ends columns found messages →
+      Spells of (SomeCommand Commit) reply messages → ⊥
 
 -- a query is answered by the messages of its rows, after which an ERR may stand in place of the end
 pub record AQueryIsAnsweredByItsRows : Type 0 where
   pub allowed : Spells server (SomeQuery Schemas) (rows (only schema)) (set_before eof)
-  pub broken_off : Spells server (SomeQuery Schemas) (refused (only schema) refusal) (set_before err)
+  pub broken_off : Spells server (SomeQuery Schemas) (refused (only schema) refusal)
+      (set_before err)
   pub other_rows : Spells server (SomeQuery Schemas) (rows (only (codes "ss"))) (set_before eof) → ⊥
-  pub refused : (found : List (List Cell)) → Spells server (SomeQuery Schemas) (rows found) (ok ∷ []) → ⊥
+  pub refused : (found : List (List Cell)) →
+      Spells server (SomeQuery Schemas) (rows found) (ok ∷ []) → ⊥
 
 -- a server whose result sets end by an OK with the header fe
 abbrev pub ending_by_ok : Server
@@ -81,11 +87,16 @@ set_without_eof last = (1 ∷ []) ∷ definition ∷ (1 ∷ codes "s") ∷ last 
 
 -- there no EOF stands in a result set, and where EOF packets end them, no such OK does
 pub record AnOkEndsAResultSet : Type 0 where
-  pub allowed : Spells ending_by_ok (SomeQuery Schemas) (rows (only schema)) (set_without_eof ending_ok)
-  pub broken_off : Spells ending_by_ok (SomeQuery Schemas) (refused (only schema) refusal) (set_without_eof err)
-  pub eof_at_the_end : (found : List (List Cell)) → Spells ending_by_ok (SomeQuery Schemas) (rows found) (set_without_eof eof) → ⊥
-  pub eof_between : (found : List (List Cell)) → Spells ending_by_ok (SomeQuery Schemas) (rows found) (set_before ending_ok) → ⊥
-  pub ok_under_eof : (found : List (List Cell)) → Spells server (SomeQuery Schemas) (rows found) (set_before long_ok) → ⊥
+  pub allowed : Spells ending_by_ok (SomeQuery Schemas) (rows (only schema))
+      (set_without_eof ending_ok)
+  pub broken_off : Spells ending_by_ok (SomeQuery Schemas) (refused (only schema) refusal)
+      (set_without_eof err)
+  pub eof_at_the_end : (found : List (List Cell)) →
+      Spells ending_by_ok (SomeQuery Schemas) (rows found) (set_without_eof eof) → ⊥
+  pub eof_between : (found : List (List Cell)) →
+      Spells ending_by_ok (SomeQuery Schemas) (rows found) (set_before ending_ok) → ⊥
+  pub ok_under_eof : (found : List (List Cell)) →
+      Spells server (SomeQuery Schemas) (rows found) (set_before long_ok) → ⊥
 
 -- COM_QUERY COMMIT as one packet of the id 0
 abbrev pub commit : List ℕ
@@ -100,13 +111,15 @@ pub record AreOk (id : ℕ) (bytes : List ℕ) : Type 0 where
 -- a COMMIT without an open transaction is answered by an OK whose id is 1, by nothing else, and changes nothing
 pub record ACommitIsAnsweredByAnOk : Type 0 where
   pub allowed : Exchanges plainly worked commit (7 ∷ 0 ∷ 0 ∷ 1 ∷ ok) worked
-  pub nothing_else : (reply : List ℕ) (new : State) → Exchanges plainly worked commit reply new → AreOk 1 reply × (new ≡ worked)
+  pub nothing_else : (reply : List ℕ) (new : State) → Exchanges plainly worked commit reply new →
+      AreOk 1 reply × (new ≡ worked)
   pub refused : (new : State) → Exchanges plainly worked commit (7 ∷ 0 ∷ 0 ∷ 0 ∷ ok) new → ⊥
 
 -- COM_QUIT ends the session without an answer
 pub record AQuitIsntAnswered : Type 0 where
   pub allowed : Exchanges plainly worked (1 ∷ 0 ∷ 0 ∷ 0 ∷ 1 ∷ []) [] (closed_state worked)
-  pub refused : (new : State) → Exchanges plainly worked (1 ∷ 0 ∷ 0 ∷ 0 ∷ 1 ∷ []) (7 ∷ 0 ∷ 0 ∷ 1 ∷ ok) new → ⊥
+  pub refused : (new : State) →
+      Exchanges plainly worked (1 ∷ 0 ∷ 0 ∷ 0 ∷ 1 ∷ []) (7 ∷ 0 ∷ 0 ∷ 1 ∷ ok) new → ⊥
 
 -- the link is greeted, and no session is open yet
 abbrev pub logging_in : State
@@ -123,5 +136,6 @@ ping = 1 ∷ 0 ∷ 0 ∷ 0 ∷ 14 ∷ []
 
 -- is answered by ERR, and changes nothing
 pub record AnUnknownCommandIsAnsweredByAnErr : Type 0 where
-  pub allowed : Exchanges plainly worked ping (11 ∷ 0 ∷ 0 ∷ 1 ∷ err) (with_error worked None refusal)
+  pub allowed : Exchanges plainly worked ping (11 ∷ 0 ∷ 0 ∷ 1 ∷ err)
+      (with_error worked None refusal)
   pub refused : (new : State) → Exchanges plainly worked ping (7 ∷ 0 ∷ 0 ∷ 1 ∷ ok) new → ⊥

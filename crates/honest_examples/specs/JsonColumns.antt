@@ -24,15 +24,31 @@ table = codes "j"
 
 -- the text that makes it: a key, and a column of JSON
 abbrev pub table_text : List ℕ
-table_text = codes "CREATE TABLE `j` (`id` int NOT NULL, `d` json, PRIMARY KEY (`id`)) ENGINE=InnoDB"
+table_text = codes
+    "CREATE TABLE `j` (`id` int NOT NULL, `d` json, PRIMARY KEY (`id`)) ENGINE=InnoDB"
 
 -- the column of JSON
 abbrev pub document : Column
-document = record { name = codes "d"; data_type = codes "json"; unsigned = false; generated = false }
+document = record {
+  name = codes "d";
+  data_type = codes "json";
+  unsigned = false;
+  generated = false;
+}
 
 -- the table, as it stands in a database
 abbrev pub the_table : Object
-the_table = record { kind = Table; schema = schema; name = table; text = table_text; settings = None; columns = id ∷ document ∷ []; key = Some 0; rank = 0; needs = [] }
+the_table = record {
+  kind = Table;
+  schema = schema;
+  name = table;
+  text = table_text;
+  settings = None;
+  columns = id ∷ document ∷ [];
+  key = Some 0;
+  rank = 0;
+  needs = [];
+}
 
 -- a text of the same value that the server prints otherwise
 abbrev pub unprinted : List ℕ
@@ -64,12 +80,15 @@ json_link = link empty (Some schema)
 
 -- an INSERT of one row of the key 1, whose cell is spelled so
 abbrev pub insert_cell : List ℕ → Statement
-insert_cell spelled = SomeCommand (Insert (codes "INSERT INTO `j` (`id`,`d`) VALUES\n(1," ++ spelled ++ codes ")"))
+insert_cell spelled =
+    SomeCommand (Insert (codes "INSERT INTO `j` (`id`,`d`) VALUES\n(1," ++ spelled ++ codes ")"))
 
 -- A cell of a column of JSON is spelled as a text of utf8mb4 that the server prints, or as NULL.
 pub record AJsonCellIsSpelledAsItIsPrinted : Type 0 where
-  pub allowed : IsServed json_link (insert_cell (codes "CONVERT('[1, 2]' USING utf8mb4)")) done (with_own json_link (unmarked (puts (Value printed))))
-  pub null : IsServed json_link (insert_cell (codes "NULL")) done (with_own json_link (unmarked (puts Null)))
+  pub allowed : IsServed json_link (insert_cell (codes "CONVERT('[1, 2]' USING utf8mb4)")) done
+      (with_own json_link (unmarked (puts (Value printed))))
+  pub null : IsServed json_link (insert_cell (codes "NULL")) done
+      (with_own json_link (unmarked (puts Null)))
   pub as_text : IsRefused json_link (insert_cell (codes "'[1, 2]'"))
   pub not_printed : IsRefused json_link (insert_cell (codes "CONVERT('[1,2]' USING utf8mb4)"))
 

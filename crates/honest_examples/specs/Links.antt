@@ -48,23 +48,33 @@ pub record AFailureLosesNothingByHalves : Type 0 where
 
 -- some of what waits is received, in its order, or the link fails
 pub record BytesAreReceived : Type 0 where
-  pub allowed : Receives {E = ℕ} (with_waiting ok_packet) (7 ∷ 0 ∷ 0 ∷ 9 ∷ []) (Ok 3) (with_waiting (1 ∷ ok))
-  pub fails : Receives {E = ℕ} (with_waiting ok_packet) [] (Err 0) (record (with_waiting ok_packet) { failed = true })
+  pub allowed : Receives {E = ℕ} (with_waiting ok_packet) (7 ∷ 0 ∷ 0 ∷ 9 ∷ []) (Ok 3)
+      (with_waiting (1 ∷ ok))
+  pub fails : Receives {E = ℕ} (with_waiting ok_packet) [] (Err 0)
+      (record (with_waiting ok_packet) { failed = true })
   pub none : (new : ServedLink) → Receives {E = ℕ} (with_waiting ok_packet) [] (Ok 0) new → ⊥
-  pub others : (new : ServedLink) → Receives {E = ℕ} (with_waiting ok_packet) (9 ∷ []) (Ok 1) new → ⊥
+  pub others : (new : ServedLink) → Receives {E = ℕ} (with_waiting ok_packet) (9 ∷ []) (Ok 1) new →
+      ⊥
 
 -- what the only link to a quiet site has seen past the site's history is its own
 pub record ALinkHasSeenItsOwn : Type 0 where
   pub allowed : IsSoundState (with_three worked)
-  pub refused : IsSoundState (record worked { seen = history ++ unmarked (put three ∷ []) ∷ [] }) → ⊥
+  pub refused : IsSoundState (record worked { seen = history ++ unmarked (put three ∷ []) ∷ [] }) →
+      ⊥
 
 -- a link to a site where others write too, which has committed the row (3,'c')
 abbrev pub among_others : List Transaction → State
-among_others seen = record worked { terms = record worked.terms { server = record server { quiet = false } }; seen = seen; mine = unmarked (put three ∷ []) ∷ [] }
+among_others seen =
+    record worked {
+      terms = record worked.terms { server = record server { quiet = false } };
+      seen = seen;
+      mine = unmarked (put three ∷ []) ∷ [];
+    }
 
 -- what a link has committed is among what it has seen, also where others write
 pub record ALinkHoldsItsOwn : Type 0 where
-  pub allowed : IsSoundState (among_others (history ++ unmarked [] ∷ unmarked (put three ∷ []) ∷ []))
+  pub allowed : IsSoundState
+      (among_others (history ++ unmarked [] ∷ unmarked (put three ∷ []) ∷ []))
   pub refused : IsSoundState (among_others history) → ⊥
 
 -- a link's snapshot shows a front of what it has seen, and so does each grant of the read lock
@@ -72,5 +82,7 @@ pub record ASnapshotShowsAFront : Type 0 where
   pub allowed : IsSoundState viewing
   pub same : IsSoundState (record worked { view = Some history })
   pub granted : IsSoundState (record worked { grants = no_rows ∷ history ∷ [] })
-  pub refused : IsSoundState (record worked { view = Some (history ++ unmarked (put three ∷ []) ∷ []) }) → ⊥
-  pub grant_refused : IsSoundState (record worked { grants = (history ++ unmarked (put three ∷ []) ∷ []) ∷ [] }) → ⊥
+  pub refused : IsSoundState
+      (record worked { view = Some (history ++ unmarked (put three ∷ []) ∷ []) }) → ⊥
+  pub grant_refused : IsSoundState
+      (record worked { grants = (history ++ unmarked (put three ∷ []) ∷ []) ∷ [] }) → ⊥

@@ -11,7 +11,12 @@ use Rattle.honest_examples.specs.Worked.{server}
 
 -- a link to a server whose accounts have the plugin mysql_native_password, in this phase
 abbrev pub native : Phase → State
-native phase = record worked { terms = record worked.terms { server = record server { plugin = native_password } }; phase = phase }
+native phase =
+    record worked {
+      terms =
+          record worked.terms { server = record server { plugin = native_password } };
+      phase = phase;
+    }
 
 -- the client's response, as a packet of this id
 abbrev pub response : ℕ → List ℕ
@@ -35,17 +40,25 @@ err_of id = 11 ∷ 0 ∷ 0 ∷ id ∷ err
 
 -- the plugin of the accounts may be asked for, once, and no other; the response to it may be taken
 pub record AnotherPluginIsAskedForOnce : Type 0 where
-  pub allowed : Exchanges plainly (native greeted) (response 1) (request_packet 2) (native switching)
+  pub allowed : Exchanges plainly (native greeted) (response 1) (request_packet 2)
+      (native switching)
   pub taken : Exchanges plainly (native switching) (response 3) (ok_of 4) (native in_session)
-  pub again : (new : State) → Exchanges plainly (native switching) (response 3) (request_packet 4) new → ⊥
+  pub again : (new : State) →
+      Exchanges plainly (native switching) (response 3) (request_packet 4) new → ⊥
   pub refused : (new : State) → Exchanges plainly logging_in (response 1) (request_packet 2) new → ⊥
 
 -- the same link, before its login, to a server that answers ERR as it likes
 abbrev pub unwilling_login : State
-unwilling_login = record logging_in { terms = record logging_in.terms { server = record server { willing = false } } }
+unwilling_login =
+    record logging_in {
+      terms =
+          record logging_in.terms { server = record server { willing = false } };
+    }
 
 -- a login may be turned away, and the link is then over; a willing server turns none away
 pub record ALoginIsTurnedAway : Type 0 where
-  pub allowed : Exchanges plainly unwilling_login (response 1) (err_of 2) (record (with_error unwilling_login (Some Connect) refusal) { phase = over })
-  pub closes : (new : State) → Exchanges plainly unwilling_login (response 1) (err_of 2) new → new.phase ≡ over
+  pub allowed : Exchanges plainly unwilling_login (response 1) (err_of 2)
+      (record (with_error unwilling_login (Some Connect) refusal) { phase = over })
+  pub closes : (new : State) → Exchanges plainly unwilling_login (response 1) (err_of 2) new →
+      new.phase ≡ over
   pub refused : (new : State) → Exchanges plainly logging_in (response 1) (err_of 2) new → ⊥

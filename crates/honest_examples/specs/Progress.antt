@@ -18,7 +18,18 @@ use Rattle.honest_examples.specs.Worked.{unmarked}
 
 -- the schema of the progress, as it stands in a database
 abbrev pub the_schema : Object
-the_schema = record { kind = Schema; schema = progress_schema; name = progress_schema; text = command_text CreateProgress; settings = None; columns = []; key = None; rank = 0; needs = [] }
+the_schema = record {
+  kind = Schema;
+  schema = progress_schema;
+  name = progress_schema;
+  text = command_text CreateProgress;
+  settings = None;
+  columns = [];
+  key = None;
+  rank =
+      0;
+  needs = [];
+}
 
 -- the table of the files that were loaded, as it stands in a database
 abbrev pub the_files : Object
@@ -28,7 +39,12 @@ the_files = record {
   name = codes "files";
   text = command_text CreateProgressFiles;
   settings = None;
-  columns = record { name = codes "name"; data_type = codes "varbinary"; unsigned = false; generated = false } ∷ [];
+  columns = record {
+    name = codes "name";
+    data_type = codes "varbinary";
+    unsigned = false;
+    generated = false;
+  } ∷ [];
   key = None;
   rank = 0;
   needs = [];
@@ -52,12 +68,22 @@ puts_file = unmarked (Put progress_schema (codes "files") (Value file ∷ []) �
 
 -- the schema and the table, with the file
 abbrev pub with_file : Database
-with_file = record { objects = the_schema ∷ the_files ∷ []; rows = record { table = record { schema = progress_schema; name = codes "files" }; rows = (Value file ∷ []) ∷ [] } ∷ [] }
+with_file = record {
+  objects = the_schema ∷ the_files ∷ [];
+  rows = record {
+    table = record { schema = progress_schema; name = codes "files" };
+    rows = (Value file ∷ []) ∷ [];
+  } ∷ [];
+}
 
 -- Schema and table are made without a current schema, files are put and told, and none is put where the table isn't there.
 pub record TheProgressIsKept : Type 0 where
-  pub schema : IsServed (link [] None) (SomeCommand CreateProgress) done (with_own (link [] None) makes_schema)
-  pub table : IsServed (link (makes_schema ∷ []) None) (SomeCommand CreateProgressFiles) done (with_own (link (makes_schema ∷ []) None) makes_files)
-  pub put : IsServed (link (makes_schema ∷ makes_files ∷ []) None) (SomeCommand (InsertProgressFile file)) done (with_own (link (makes_schema ∷ makes_files ∷ []) None) puts_file)
+  pub schema : IsServed (link [] None) (SomeCommand CreateProgress) done
+      (with_own (link [] None) makes_schema)
+  pub table : IsServed (link (makes_schema ∷ []) None) (SomeCommand CreateProgressFiles) done
+      (with_own (link (makes_schema ∷ []) None) makes_files)
+  pub put : IsServed (link (makes_schema ∷ makes_files ∷ []) None)
+      (SomeCommand (InsertProgressFile file)) done
+      (with_own (link (makes_schema ∷ makes_files ∷ []) None) puts_file)
   pub told : Answers with_file ProgressFiles ((Value file ∷ []) ∷ [])
   pub refused : IsRefused (link (makes_schema ∷ []) None) (SomeCommand (InsertProgressFile file))

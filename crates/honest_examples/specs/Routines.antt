@@ -28,15 +28,42 @@ view_text = codes "CREATE VIEW `v` AS SELECT 1"
 
 -- the settings of the session in which they are made
 abbrev pub settings : Settings
-settings = record { sql_mode = codes "ANSI"; client = codes "utf8mb4"; collation = codes "utf8mb4_bin"; zone = [] }
+settings = record {
+  sql_mode = codes "ANSI";
+  client = codes "utf8mb4";
+  collation = codes "utf8mb4_bin";
+  zone = [];
+}
 
 -- the procedure that is made under these settings
 abbrev pub the_procedure : Object
-the_procedure = record { kind = Procedure; schema = schema; name = codes "p"; text = procedure_text; settings = Some settings; columns = []; key = None; rank = 0; needs = [] }
+the_procedure =
+    record {
+      kind = Procedure;
+      schema = schema;
+      name = codes "p";
+      text = procedure_text;
+      settings = Some settings;
+      columns = [];
+      key = None;
+      rank = 0;
+      needs = [];
+    }
 
 -- the view that is made under them, whose mode is empty
 abbrev pub the_view : Object
-the_view = record { kind = View; schema = schema; name = codes "v"; text = view_text; settings = Some (record settings { sql_mode = [] }); columns = []; key = None; rank = 0; needs = [] }
+the_view = record {
+  kind = View;
+  schema = schema;
+  name = codes "v";
+  text = view_text;
+  settings = Some (record settings { sql_mode = [] });
+  columns = [];
+  key = None;
+  rank =
+      0;
+  needs = [];
+}
 
 -- a link with these settings, after the schema alone
 abbrev pub with_settings : Settings → State
@@ -48,13 +75,20 @@ making object = with_own (with_settings settings) (unmarked (Make object ∷ [])
 
 -- Settings are those of the objects that are made next. USE clears them.
 pub record SettingsAreOfTheNextObject : Type 0 where
-  pub mode : IsServed (with_settings no_settings) (SomeCommand (SqlMode (codes "ANSI"))) done (with_settings (record no_settings { sql_mode = codes "ANSI" }))
-  pub client : IsServed (with_settings (record settings { client = [] })) (SomeCommand (CharacterSetClient (codes "utf8mb4"))) done (with_settings settings)
-  pub collation : IsServed (with_settings (record settings { collation = [] })) (SomeCommand (CollationConnection (codes "utf8mb4_bin"))) done (with_settings settings)
-  pub of_procedure : IsServed (with_settings settings) (SomeCommand (Create procedure_text)) done (making the_procedure)
-  pub of_view : IsServed (with_settings settings) (SomeCommand (Create view_text)) done (making the_view)
-  pub cleared : IsServed (with_settings settings) (SomeCommand (Use schema)) done (with_settings no_settings)
-  pub refused : Serves plainly (with_settings settings) (SomeCommand (Create procedure_text)) done (making (record the_procedure { settings = Some no_settings })) → ⊥
+  pub mode : IsServed (with_settings no_settings) (SomeCommand (SqlMode (codes "ANSI"))) done
+      (with_settings (record no_settings { sql_mode = codes "ANSI" }))
+  pub client : IsServed (with_settings (record settings { client = [] }))
+      (SomeCommand (CharacterSetClient (codes "utf8mb4"))) done (with_settings settings)
+  pub collation : IsServed (with_settings (record settings { collation = [] }))
+      (SomeCommand (CollationConnection (codes "utf8mb4_bin"))) done (with_settings settings)
+  pub of_procedure : IsServed (with_settings settings) (SomeCommand (Create procedure_text)) done
+      (making the_procedure)
+  pub of_view : IsServed (with_settings settings) (SomeCommand (Create view_text)) done
+      (making the_view)
+  pub cleared : IsServed (with_settings settings) (SomeCommand (Use schema)) done
+      (with_settings no_settings)
+  pub refused : Serves plainly (with_settings settings) (SomeCommand (Create procedure_text)) done
+      (making (record the_procedure { settings = Some no_settings })) → ⊥
 
 -- a history in which the schema is made, and then the procedure
 abbrev pub with_procedure : List Transaction
@@ -66,22 +100,38 @@ reading = link with_procedure (Some schema)
 
 -- such a link to a server that answers ERR as it likes
 abbrev pub unwilling : State
-unwilling = record reading { terms = record reading.terms { server = record server { willing = false } } }
+unwilling = record reading {
+  terms =
+      record reading.terms { server = record server { willing = false } };
+}
 
 -- the row that SHOW CREATE PROCEDURE shows, with this mode and this text
 abbrev pub shown : List ℕ → Cell → List (List Cell)
-shown mode text = (Value (codes "p") ∷ Value mode ∷ text ∷ Value (codes "utf8mb4") ∷ Value (codes "utf8mb4_bin") ∷ []) ∷ []
+shown mode text =
+    (Value (codes "p") ∷ Value mode ∷ text ∷ Value (codes "utf8mb4") ∷ Value (codes "utf8mb4_bin")
+    ∷ []) ∷ []
 
 -- The text is shown with the settings. Only a server that isn't willing may withhold it.
 pub record ARoutineIsShownWithItsSettings : Type 0 where
-  pub allowed : IsServed reading (SomeQuery (CreateProcedure schema (codes "p"))) (rows (shown (codes "ANSI") (Value procedure_text))) reading
-  pub withheld : Serves plainly unwilling (SomeQuery (CreateProcedure schema (codes "p"))) (rows (shown (codes "ANSI") Null)) unwilling
-  pub kept : (new : State) → Serves plainly reading (SomeQuery (CreateProcedure schema (codes "p"))) (rows (shown (codes "ANSI") Null)) new → ⊥
-  pub refused : (new : State) → Serves plainly reading (SomeQuery (CreateProcedure schema (codes "p"))) (rows (shown [] (Value procedure_text))) new → ⊥
+  pub allowed : IsServed reading (SomeQuery (CreateProcedure schema (codes "p")))
+      (rows (shown (codes "ANSI") (Value procedure_text))) reading
+  pub withheld : Serves plainly unwilling (SomeQuery (CreateProcedure schema (codes "p")))
+      (rows (shown (codes "ANSI") Null)) unwilling
+  pub kept : (new : State) →
+      Serves plainly reading (SomeQuery (CreateProcedure schema (codes "p")))
+      (rows (shown (codes "ANSI") Null)) new → ⊥
+  pub refused : (new : State) →
+      Serves plainly reading (SomeQuery (CreateProcedure schema (codes "p")))
+      (rows (shown [] (Value procedure_text))) new → ⊥
 
 -- a function with the same settings
 abbrev pub the_function : Object
-the_function = record the_procedure { kind = Function; name = codes "f"; text = codes "CREATE FUNCTION `f`() RETURNS int RETURN 1" }
+the_function =
+    record the_procedure {
+      kind = Function;
+      name = codes "f";
+      text = codes "CREATE FUNCTION `f`() RETURNS int RETURN 1";
+    }
 
 -- the schema with the procedure, the function and the view
 abbrev pub with_all : Database

@@ -29,16 +29,20 @@ pub record ATransactionIsCommittedAlone : Type 0 where
 
 -- A COMMIT that is sent is handled, and its answer waits; where sending fails it was handled or it wasn't. None is sent and not handled.
 pub record AMessageIsSent : Type 0 where
-  pub allowed : Sends {T = ℕ} {E = ℕ} (alive opened) commit (Ok 0) (record (alive (with_three opened)) { waiting = ok_packet })
+  pub allowed : Sends {T = ℕ} {E = ℕ} (alive opened) commit (Ok 0)
+      (record (alive (with_three opened)) { waiting = ok_packet })
   pub handled : Sends {T = ℕ} {E = ℕ} (alive opened) commit (Err 0) (broken (with_three opened))
   pub not_handled : Sends {T = ℕ} {E = ℕ} (alive opened) commit (Err 0) (broken opened)
-  pub refused : (waiting : List ℕ) → Sends {T = ℕ} {E = ℕ} (alive opened) commit (Ok 0) (record (alive opened) { waiting = waiting }) → ⊥
+  pub refused : (waiting : List ℕ) →
+      Sends {T = ℕ} {E = ℕ} (alive opened) commit (Ok 0)
+      (record (alive opened) { waiting = waiting }) → ⊥
 
 -- On a link that has failed no message is sent, and nothing changes.
 pub record AFailedLinkSendsNothing : Type 0 where
   pub allowed : Sends {T = ℕ} {E = ℕ} (broken opened) commit (Err 0) (broken opened)
   pub sent : (new : ServedLink) → Sends {T = ℕ} {E = ℕ} (broken opened) commit (Ok 0) new → ⊥
-  pub refused : Sends {T = ℕ} {E = ℕ} (broken opened) commit (Err 0) (broken (with_three opened)) → ⊥
+  pub refused : Sends {T = ℕ} {E = ℕ} (broken opened) commit (Err 0) (broken (with_three opened)) →
+      ⊥
 
 -- COMMIT is no object's text, and CREATE TABLE is
 pub record ACommitMakesNothing : Type 0 where
@@ -66,9 +70,13 @@ start_snapshot = 43 ∷ 0 ∷ 0 ∷ 0 ∷ 3 ∷ codes "START TRANSACTION WITH CO
 
 -- Of two links side by side, A holds the read lock after its row, which B hasn't seen. B's snapshot beside A shows what A has seen.
 pub record ASnapshotShowsWhatTheHolderHasSeen : Type 0 where
-  pub allowed : SendsBeside {T = ℕ} {E = ℕ} a_holds (alive one_of_two) start_snapshot (Ok 0) (record (alive (record b_sees { view = Some a_holds.seen })) { waiting = ok_packet })
-  pub nothing_else : (new : ServedLink) → SendsBeside {T = ℕ} {E = ℕ} a_holds (alive one_of_two) start_snapshot (Ok 0) new → new.state.view ≡ Some a_holds.seen
-  pub older : (new : ServedLink) → new.state.view ≡ Some history → SendsBeside {T = ℕ} {E = ℕ} a_holds (alive one_of_two) start_snapshot (Ok 0) new → ⊥
+  pub allowed : SendsBeside {T = ℕ} {E = ℕ} a_holds (alive one_of_two) start_snapshot (Ok 0)
+      (record (alive (record b_sees { view = Some a_holds.seen })) { waiting = ok_packet })
+  pub nothing_else : (new : ServedLink) →
+      SendsBeside {T = ℕ} {E = ℕ} a_holds (alive one_of_two) start_snapshot (Ok 0) new →
+      new.state.view ≡ Some a_holds.seen
+  pub older : (new : ServedLink) → new.state.view ≡ Some history →
+      SendsBeside {T = ℕ} {E = ℕ} a_holds (alive one_of_two) start_snapshot (Ok 0) new → ⊥
 
 -- B has an open transaction, which has put the row of the key 5
 abbrev pub b_opened : State
@@ -76,7 +84,12 @@ b_opened = record one_of_two { pending = Some (put (row (codes "5") Null) ∷ []
 
 -- Where B fails at a snapshot that is sent plainly, its open transaction may have been committed, and beside A nothing was.
 pub record NothingIsCommittedBesideAHolder : Type 0 where
-  pub plainly : Sends {T = ℕ} {E = ℕ} (alive b_opened) start_snapshot (Err 0) (broken (with_own b_opened puts_five))
-  pub allowed : SendsBeside {T = ℕ} {E = ℕ} a_holds (alive b_opened) start_snapshot (Err 0) (broken b_opened)
-  pub nothing_else : (new : ServedLink) → SendsBeside {T = ℕ} {E = ℕ} a_holds (alive b_opened) start_snapshot (Err 0) new → new.state.mine ≡ []
-  pub refused : SendsBeside {T = ℕ} {E = ℕ} a_holds (alive b_opened) start_snapshot (Err 0) (broken (with_own b_opened puts_five)) → ⊥
+  pub plainly : Sends {T = ℕ} {E = ℕ} (alive b_opened) start_snapshot (Err 0)
+      (broken (with_own b_opened puts_five))
+  pub allowed : SendsBeside {T = ℕ} {E = ℕ} a_holds (alive b_opened) start_snapshot (Err 0)
+      (broken b_opened)
+  pub nothing_else : (new : ServedLink) →
+      SendsBeside {T = ℕ} {E = ℕ} a_holds (alive b_opened) start_snapshot (Err 0) new →
+      new.state.mine ≡ []
+  pub refused : SendsBeside {T = ℕ} {E = ℕ} a_holds (alive b_opened) start_snapshot (Err 0)
+      (broken (with_own b_opened puts_five)) → ⊥

@@ -19,7 +19,14 @@ use Rattle.honest_examples.specs.Worked.{history, one, put, row, schema, server,
 
 -- a site of a willing server with the worked history, where others write or not
 abbrev pub site : Bool → ServedSite
-site quiet = record { server = record server { quiet = quiet }; history = history; returned = []; errors = []; grants = []; keeps_wide = true }
+site quiet = record {
+  server = record server { quiet = quiet };
+  history = history;
+  returned = [];
+  errors = [];
+  grants = [];
+  keeps_wide = true;
+}
 
 -- the row (3,'c') is put
 abbrev pub puts_three : Transaction
@@ -33,11 +40,17 @@ pub record ANewLinkHasSeenTheHistory : Type 0 where
 
 -- a server's first message: of version 8.0.35, with a scramble of twenty bytes and the plugin mysql_native_password
 abbrev pub greeting : List ℕ
-greeting = 10 ∷ codes "8.0.35" ++ (0 ∷ 8 ∷ 0 ∷ 0 ∷ 0 ∷ codes "abcdefgh" ++ (0 ∷ 255 ∷ 255 ∷ 255 ∷ 2 ∷ 0 ∷ 255 ∷ 222 ∷ 21 ∷ replicate 10 0 ++ (codes "ijklmnopqrst" ++ (0 ∷ codes "mysql_native_password" ++ 0 ∷ []))))
+greeting = 10 ∷ codes "8.0.35"
+    ++ (0 ∷ 8 ∷ 0 ∷ 0 ∷ 0 ∷ codes "abcdefgh"
+    ++ (0 ∷ 255 ∷ 255 ∷ 255 ∷ 2 ∷ 0 ∷ 255 ∷ 222 ∷ 21 ∷ replicate 10 0
+    ++ (codes "ijklmnopqrst" ++ (0 ∷ codes "mysql_native_password" ++ 0 ∷ []))))
 
 -- the same that offers to end result sets by an OK
 abbrev pub offering_ok : List ℕ
-offering_ok = 10 ∷ codes "8.0.35" ++ (0 ∷ 8 ∷ 0 ∷ 0 ∷ 0 ∷ codes "abcdefgh" ++ (0 ∷ 255 ∷ 255 ∷ 255 ∷ 2 ∷ 0 ∷ 255 ∷ 223 ∷ 21 ∷ replicate 10 0 ++ (codes "ijklmnopqrst" ++ (0 ∷ codes "mysql_native_password" ++ 0 ∷ []))))
+offering_ok =
+    10 ∷ codes "8.0.35" ++ (0 ∷ 8 ∷ 0 ∷ 0 ∷ 0 ∷ codes "abcdefgh"
+    ++ (0 ∷ 255 ∷ 255 ∷ 255 ∷ 2 ∷ 0 ∷ 255 ∷ 223 ∷ 21 ∷ replicate 10 0
+    ++ (codes "ijklmnopqrst" ++ (0 ∷ codes "mysql_native_password" ++ 0 ∷ []))))
 
 -- a greeting says how the server's result sets end, and whether it is newer
 pub record AGreetingIsOfItsServer : Type 0 where
@@ -48,20 +61,30 @@ pub record AGreetingIsOfItsServer : Type 0 where
 
 -- a link on which it waits
 abbrev pub greeted_link : State → ServedLink
-greeted_link state = record { waiting = 74 ∷ 0 ∷ 0 ∷ 0 ∷ greeting; state = state; failed = false; keeps_wide = true }
+greeted_link state =
+    record { waiting = 74 ∷ 0 ∷ 0 ∷ 0 ∷ greeting; state = state; failed = false; keeps_wide = true }
 
 -- a new link is greeted, and holds no lock
 pub record ANewLinkIsGreeted : Type 0 where
-  pub allowed : IsNewLink (site true) true (greeted_link (fresh_state (terms_of (site true) true) history))
-  pub locked : IsNewLink (site true) true (greeted_link (record (fresh_state (terms_of (site true) true) history) { frozen = true })) → ⊥
-  pub silent : IsNewLink (site true) true (record (greeted_link (fresh_state (terms_of (site true) true) history)) { waiting = [] }) → ⊥
-  pub wide_untold : IsNewLink (site true) true (record (greeted_link (fresh_state (terms_of (site true) true) history)) { keeps_wide = false }) → ⊥
+  pub allowed : IsNewLink (site true) true
+      (greeted_link (fresh_state (terms_of (site true) true) history))
+  pub locked : IsNewLink (site true) true
+      (greeted_link (record (fresh_state (terms_of (site true) true) history) { frozen = true })) →
+      ⊥
+  pub silent : IsNewLink (site true) true
+      (record (greeted_link (fresh_state (terms_of (site true) true) history)) { waiting = [] }) → ⊥
+  pub wide_untold : IsNewLink (site true) true
+      (record (greeted_link (fresh_state (terms_of (site true) true) history)) {
+        keeps_wide =
+            false;
+      }) → ⊥
 
 -- connecting to a quiet site leaves its history, and where others write it may have grown
 pub record ConnectingLeavesTheHistory : Type 0 where
   pub allowed : Connects (site true) (site true)
   pub more : Connects (site false) (record (site false) { history = history ++ puts_three ∷ [] })
-  pub refused : Connects (site true) (record (site true) { history = history ++ puts_three ∷ [] }) → ⊥
+  pub refused : Connects (site true) (record (site true) { history = history ++ puts_three ∷ [] }) →
+      ⊥
 
 -- a link of this state that comes back
 abbrev pub back : State → ServedLink
@@ -69,9 +92,12 @@ back state = record { waiting = []; state = state; failed = false; keeps_wide = 
 
 -- once the only link is back that has put a row, the history is the old one and that transaction; while another is out, it stands
 pub record TheHistoryIsToldOnceAllAreBack : Type 0 where
-  pub allowed : TakesBack 0 (site true) (back (with_three worked)) (record (site true) { history = history ++ puts_three ∷ [] })
-  pub nothing_else : (new : ServedSite) → TakesBack 0 (site true) (back (with_three worked)) new → new.history ≡ history ++ puts_three ∷ []
-  pub waits : (new : ServedSite) → TakesBack 1 (site true) (back (with_three worked)) new → new.history ≡ history
+  pub allowed : TakesBack 0 (site true) (back (with_three worked))
+      (record (site true) { history = history ++ puts_three ∷ [] })
+  pub nothing_else : (new : ServedSite) → TakesBack 0 (site true) (back (with_three worked)) new →
+      new.history ≡ history ++ puts_three ∷ []
+  pub waits : (new : ServedSite) → TakesBack 1 (site true) (back (with_three worked)) new →
+      new.history ≡ history
 
 -- a grant of the read lock, after which nothing was put, the row (3,'c') was, or another
 abbrev pub granted : List Transaction → State
@@ -79,13 +105,16 @@ granted after = record worked { grants = (history ++ after) ∷ [] }
 
 -- a site stays honest where its grants are prefixes of one list
 pub record GrantsArePrefixesOfOneList : Type 0 where
-  pub allowed : StaysHonest 0 (record (site true) { grants = (history ++ puts_three ∷ []) ∷ [] }) (granted [])
-  pub refused : StaysHonest 0 (record (site true) { grants = (history ++ puts_three ∷ []) ∷ [] }) (granted (unmarked [] ∷ [])) → ⊥
+  pub allowed : StaysHonest 0 (record (site true) { grants = (history ++ puts_three ∷ []) ∷ [] })
+      (granted [])
+  pub refused : StaysHonest 0 (record (site true) { grants = (history ++ puts_three ∷ []) ∷ [] })
+      (granted (unmarked [] ∷ [])) → ⊥
 
 -- and where what its links have put goes together: not where two of them have put rows of one key
 pub record LinksPutDifferentKeys : Type 0 where
   pub allowed : StaysHonest 0 (record (site true) { returned = (puts_three ∷ []) ∷ [] }) worked
-  pub refused : StaysHonest 0 (record (site true) { returned = (puts_three ∷ []) ∷ [] }) (with_three worked) → ⊥
+  pub refused : StaysHonest 0 (record (site true) { returned = (puts_three ∷ []) ∷ [] })
+      (with_three worked) → ⊥
 
 -- the row (4,NULL) is put; of two links to a quiet site, A puts those of the keys 3 and 4, and B that of 5
 abbrev pub puts_four : Transaction
@@ -102,9 +131,11 @@ of_both = (puts_three ∷ puts_four ∷ []) ∷ (puts_five ∷ []) ∷ []
 -- A was granted the read lock after its first row: there is a history of both that begins so, and one that doesn't
 pub record AGrantComesFirst : Type 0 where
   pub allowed : Interleaves of_both (puts_three ∷ puts_five ∷ puts_four ∷ [])
-  pub begins_so : IsPrefix (history ++ puts_three ∷ []) (history ++ (puts_three ∷ puts_five ∷ puts_four ∷ []))
+  pub begins_so : IsPrefix (history ++ puts_three ∷ [])
+      (history ++ (puts_three ∷ puts_five ∷ puts_four ∷ []))
   pub another : Interleaves of_both (puts_five ∷ puts_three ∷ puts_four ∷ [])
-  pub refused : IsPrefix (history ++ puts_three ∷ []) (history ++ (puts_five ∷ puts_three ∷ puts_four ∷ [])) → ⊥
+  pub refused : IsPrefix (history ++ puts_three ∷ [])
+      (history ++ (puts_five ∷ puts_three ∷ puts_four ∷ [])) → ⊥
   pub out_of_order : Interleaves of_both (puts_four ∷ puts_three ∷ puts_five ∷ []) → ⊥
 
 -- a link to the site that isn't the only one
@@ -133,18 +164,33 @@ b_last = with_own b_sees puts_five
 
 -- the site once both are back: after the worked history come these transactions
 abbrev pub settled : List Transaction → ServedSite
-settled after = record (site true) { history = history ++ after; grants = (history ++ puts_three ∷ []) ∷ [] }
+settled after =
+    record (site true) { history = history ++ after; grants = (history ++ puts_three ∷ []) ∷ [] }
 
 -- what two links are told side by side, and what the site then tells of them
 pub record TwoLinksSideBySide : Type 0 where
   pub a_puts : Serves plainly one_of_two (insert (codes "(3,'c')")) done a_first
   pub a_locks : Serves plainly a_first (SomeCommand FlushTables) done a_holds
-  pub b_asks : Serves (beside a_holds) one_of_two (SomeQuery (RowsByKey columns schema table key)) (rows (one ∷ two ∷ three ∷ [])) b_sees
-  pub b_sees_no_less : (new : State) → Serves (beside a_holds) one_of_two (SomeQuery (RowsByKey columns schema table key)) (rows (one ∷ two ∷ [])) new → ⊥
-  pub a_unlocks : Serves plainly a_holds (SomeCommand UnlockTables) done (record a_holds { frozen = false })
+  pub b_asks : Serves (beside a_holds) one_of_two (SomeQuery (RowsByKey columns schema table key))
+      (rows (one ∷ two ∷ three ∷ [])) b_sees
+  pub b_sees_no_less : (new : State) →
+      Serves (beside a_holds) one_of_two (SomeQuery (RowsByKey columns schema table key))
+      (rows (one ∷ two ∷ [])) new → ⊥
+  pub a_unlocks : Serves plainly a_holds (SomeCommand UnlockTables) done
+      (record a_holds { frozen = false })
   pub b_puts : Serves plainly b_sees (insert (codes "(5,NULL)")) done b_last
-  pub a_puts_again : Serves plainly (record a_holds { frozen = false }) (insert (codes "(4,NULL)")) done a_last
-  pub a_is_back : TakesBack 1 (site true) (back a_last) (record (site true) { returned = (puts_three ∷ puts_four ∷ []) ∷ []; grants = (history ++ puts_three ∷ []) ∷ [] })
-  pub b_is_back : TakesBack 0 (record (site true) { returned = (puts_three ∷ puts_four ∷ []) ∷ []; grants = (history ++ puts_three ∷ []) ∷ [] }) (back b_last) (settled (puts_three ∷ puts_five ∷ puts_four ∷ []))
+  pub a_puts_again : Serves plainly (record a_holds { frozen = false })
+      (insert (codes "(4,NULL)")) done a_last
+  pub a_is_back : TakesBack 1 (site true) (back a_last)
+      (record (site true) {
+        returned = (puts_three ∷ puts_four ∷ []) ∷ [];
+        grants = (history ++ puts_three ∷ []) ∷ [];
+      })
+  pub b_is_back : TakesBack 0
+      (record (site true) {
+        returned = (puts_three ∷ puts_four ∷ []) ∷ [];
+        grants = (history ++ puts_three ∷ []) ∷ [];
+      }) (back b_last)
+      (settled (puts_three ∷ puts_five ∷ puts_four ∷ []))
   pub is_settled : IsSettled 0 (settled (puts_three ∷ puts_five ∷ puts_four ∷ []))
   pub grant_is_lost : IsSettled 0 (settled (puts_five ∷ puts_three ∷ puts_four ∷ [])) → ⊥

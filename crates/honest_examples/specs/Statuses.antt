@@ -12,7 +12,11 @@ use Rattle.honest_examples.specs.Worked.{server}
 
 -- the worked link to a server of version 8.2 or newer, which still has SHOW MASTER STATUS or doesn't
 abbrev pub newer : Bool → State
-newer old_status = record worked { terms = record worked.terms { server = record server { newer = true; old_status = old_status } } }
+newer old_status =
+    record worked {
+      terms =
+          record worked.terms { server = record server { newer = true; old_status = old_status } };
+    }
 
 -- the position after the worked history
 abbrev pub position : List (List Cell)
@@ -21,17 +25,20 @@ position = status (codes "157")
 -- an older server has SHOW MASTER STATUS alone
 pub record AnOlderServerHasTheOldStatus : Type 0 where
   pub allowed : IsServed worked (SomeQuery MasterStatus) (rows position) worked
-  pub another : (new : State) → Serves plainly worked (SomeQuery MasterStatus) (rows (status (codes "15"))) new → ⊥
+  pub another : (new : State) →
+      Serves plainly worked (SomeQuery MasterStatus) (rows (status (codes "15"))) new → ⊥
   pub refused : IsRefused worked (SomeQuery BinaryLogStatus)
 
 -- a newer one without it has SHOW BINARY LOG STATUS alone
 pub record ANewerServerHasTheNewStatus : Type 0 where
   pub allowed : IsServed (newer false) (SomeQuery BinaryLogStatus) (rows position) (newer false)
-  pub another : (new : State) → Serves plainly (newer false) (SomeQuery BinaryLogStatus) (rows (status (codes "15"))) new → ⊥
+  pub another : (new : State) →
+      Serves plainly (newer false) (SomeQuery BinaryLogStatus) (rows (status (codes "15"))) new → ⊥
   pub refused : IsRefused (newer false) (SomeQuery MasterStatus)
 
 -- and one that keeps the old statement answers both, by one position
 pub record ANewerServerMayKeepTheOldStatus : Type 0 where
   pub old : IsServed (newer true) (SomeQuery MasterStatus) (rows position) (newer true)
   pub new : IsServed (newer true) (SomeQuery BinaryLogStatus) (rows position) (newer true)
-  pub refused : (after : State) → Serves plainly (newer true) (SomeQuery MasterStatus) (rows (status (codes "15"))) after → ⊥
+  pub refused : (after : State) →
+      Serves plainly (newer true) (SomeQuery MasterStatus) (rows (status (codes "15"))) after → ⊥

@@ -26,7 +26,19 @@ trigger_text = codes "CREATE TRIGGER `g` BEFORE INSERT ON `t` FOR EACH ROW SET @
 
 -- it stands first on its table, and was made without settings
 abbrev pub the_trigger : Object
-the_trigger = record { kind = Trigger; schema = schema; name = trigger; text = trigger_text; settings = Some no_settings; columns = []; key = None; rank = 1; needs = record { schema = schema; name = table } ∷ [] }
+the_trigger =
+    record {
+      kind = Trigger;
+      schema = schema;
+      name = trigger;
+      text = trigger_text;
+      settings = Some no_settings;
+      columns = [];
+      key = None;
+      rank = 1;
+      needs =
+          record { schema = schema; name = table } ∷ [];
+    }
 
 -- a history in which the schema, the table and then the trigger are made
 abbrev pub with_trigger : List Transaction
@@ -38,12 +50,14 @@ triggered = record { objects = the_schema ∷ the_table ∷ the_trigger ∷ []; 
 
 -- a trigger is made on a table that is there
 pub record ATriggerIsMadeOnItsTable : Type 0 where
-  pub allowed : IsServed (link no_rows (Some schema)) (SomeCommand (Create trigger_text)) done (with_own (link no_rows (Some schema)) (unmarked (Make the_trigger ∷ [])))
+  pub allowed : IsServed (link no_rows (Some schema)) (SomeCommand (Create trigger_text)) done
+      (with_own (link no_rows (Some schema)) (unmarked (Make the_trigger ∷ [])))
   pub refused : IsRefused (link schema_alone (Some schema)) (SomeCommand (Create trigger_text))
 
 -- and is told with its table and its rank
 pub record ATriggerIsTold : Type 0 where
-  pub allowed : Answers triggered (Triggers schema) ((Value trigger ∷ Value table ∷ Value (codes "1") ∷ []) ∷ [])
+  pub allowed : Answers triggered (Triggers schema)
+      ((Value trigger ∷ Value table ∷ Value (codes "1") ∷ []) ∷ [])
   pub refused : Answers triggered (Triggers schema) [] → ⊥
 
 -- the row (3,'c') is put and then the row (1,'a')
@@ -52,5 +66,7 @@ two_rows state = with_own state (unmarked (put three ∷ put one ∷ []))
 
 -- where the table has a trigger, an INSERT of one row may put another one too, and not where it has none
 pub record ATriggerMayPutMore : Type 0 where
-  pub allowed : Serves plainly (link with_trigger (Some schema)) (insert (codes "(3,'c')")) done (two_rows (link with_trigger (Some schema)))
-  pub refused : Serves plainly (link no_rows (Some schema)) (insert (codes "(3,'c')")) done (two_rows (link no_rows (Some schema))) → ⊥
+  pub allowed : Serves plainly (link with_trigger (Some schema)) (insert (codes "(3,'c')")) done
+      (two_rows (link with_trigger (Some schema)))
+  pub refused : Serves plainly (link no_rows (Some schema)) (insert (codes "(3,'c')")) done
+      (two_rows (link no_rows (Some schema))) → ⊥

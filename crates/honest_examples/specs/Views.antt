@@ -38,6 +38,7 @@ pub record AViewIsShownWithItsSettings : Type 0 where
 
 -- a view is told beside each thing that it needs
 pub record WhatAViewNeedsIsTold : Type 0 where
-  pub allowed : Answers viewed (ViewNeeds schema) ((Value view ∷ Value schema ∷ Value table ∷ []) ∷ [])
+  pub allowed : Answers viewed (ViewNeeds schema)
+      ((Value view ∷ Value schema ∷ Value table ∷ []) ∷ [])
   pub elsewhere : Answers viewed (ViewNeeds no_table) []
   pub refused : Answers viewed (ViewNeeds schema) [] → ⊥

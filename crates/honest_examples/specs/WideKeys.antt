@@ -22,7 +22,8 @@ table = codes "w"
 
 -- the text that makes it: two columns, and a primary key over both
 abbrev pub table_text : List ℕ
-table_text = codes "CREATE TABLE `w` (`a` int NOT NULL, `b` int NOT NULL, PRIMARY KEY (`a`,`b`)) ENGINE=InnoDB"
+table_text = codes
+    "CREATE TABLE `w` (`a` int NOT NULL, `b` int NOT NULL, PRIMARY KEY (`a`,`b`)) ENGINE=InnoDB"
 
 -- a column of INT with this name
 abbrev pub integer : List ℕ → Column
@@ -30,7 +31,18 @@ integer name = record { name = name; data_type = codes "int"; unsigned = false; 
 
 -- the table, as it stands in a database: it has no key of one column
 abbrev pub the_table : Object
-the_table = record { kind = Table; schema = schema; name = table; text = table_text; settings = None; columns = integer (codes "a") ∷ integer (codes "b") ∷ []; key = None; rank = 0; needs = [] }
+the_table = record {
+  kind = Table;
+  schema = schema;
+  name = table;
+  text = table_text;
+  settings = None;
+  columns = integer (codes "a") ∷ integer (codes "b") ∷ [];
+  key = None;
+  rank =
+      0;
+  needs = [];
+}
 
 -- the columns of its key, in the key's order
 abbrev pub keys : List (List ℕ)
@@ -80,25 +92,38 @@ pub record WideKeysAreSkipped : Type 0 where
 -- rows come in the order of the key, those inside the bounds alone
 pub record RowsComeInTheOrderOfTheWideKey : Type 0 where
   pub all : Answers wide (RowsByWideKey keys schema table keys) (one_one ∷ one_two ∷ two_zero ∷ [])
-  pub above : Answers wide (RowsAboveWide keys schema table keys (pos 1 ∷ pos 1 ∷ [])) (one_two ∷ two_zero ∷ [])
-  pub above_last : Answers wide (RowsAboveWide keys schema table keys (pos 1 ∷ pos 2 ∷ [])) (two_zero ∷ [])
-  pub up_to : Answers wide (RowsUpToWide keys schema table keys (pos 1 ∷ pos 9 ∷ [])) (one_one ∷ one_two ∷ [])
-  pub out_of_order : Answers wide (RowsAboveWide keys schema table keys (pos 1 ∷ pos 1 ∷ [])) (two_zero ∷ one_two ∷ []) → ⊥
-  pub refused : Answers wide (RowsAboveWide keys schema table keys (pos 1 ∷ pos 2 ∷ [])) (one_two ∷ two_zero ∷ []) → ⊥
+  pub above : Answers wide (RowsAboveWide keys schema table keys (pos 1 ∷ pos 1 ∷ []))
+      (one_two ∷ two_zero ∷ [])
+  pub above_last : Answers wide (RowsAboveWide keys schema table keys (pos 1 ∷ pos 2 ∷ []))
+      (two_zero ∷ [])
+  pub up_to : Answers wide (RowsUpToWide keys schema table keys (pos 1 ∷ pos 9 ∷ []))
+      (one_one ∷ one_two ∷ [])
+  pub out_of_order : Answers wide (RowsAboveWide keys schema table keys (pos 1 ∷ pos 1 ∷ []))
+      (two_zero ∷ one_two ∷ []) → ⊥
+  pub refused : Answers wide (RowsAboveWide keys schema table keys (pos 1 ∷ pos 2 ∷ []))
+      (one_two ∷ two_zero ∷ []) → ⊥
 
 -- a query for the columns of the key in another order has no answer, nor has one for a part of the key
 pub record AWideKeyIsNamedInItsOrder : Type 0 where
   pub refused : (rows : List (List Cell)) → Answers wide (WideKey turned schema table 0) rows → ⊥
-  pub rows_refused : (rows : List (List Cell)) → Answers wide (RowsByWideKey keys schema table turned) rows → ⊥
+  pub rows_refused : (rows : List (List Cell)) →
+      Answers wide (RowsByWideKey keys schema table turned) rows → ⊥
   pub part : (rows : List (List Cell)) → Answers wide (Key (codes "a") schema table 0) rows → ⊥
 
 -- the schema, the table, and these rows
 abbrev pub history : List (List Cell) → List Transaction
-history rows = schema_alone ++ unmarked (Make the_table ∷ map (λ row. Put schema table row) rows) ∷ []
+history rows =
+    schema_alone ++ unmarked (Make the_table ∷ map (λ row. Put schema table row) rows) ∷ []
 
 -- a link that has seen them, and tells that each wide key stands once, or doesn't tell it any more
 abbrev pub wide_link : Bool → List (List Cell) → ServedLink
-wide_link told rows = record { waiting = []; state = link (history rows) (Some schema); failed = false; keeps_wide = told }
+wide_link told rows =
+    record {
+      waiting = [];
+      state = link (history rows) (Some schema);
+      failed = false;
+      keeps_wide = told;
+    }
 
 -- A history with a wide key that stands twice is sound, but doesn't keep wide keys, and a link that tells it isn't sound.
 pub record AWideKeyMayStandTwice : Type 0 where

@@ -20,7 +20,15 @@ printed = codes "[1, 2]"
 
 -- a willing server of a quiet site, of a version before 8.2, whose result sets end by EOF packets
 abbrev pub server : Server
-server = record { quiet = true; willing = true; plugin = []; newer = false; ends = Eof; old_status = false; prints = bytes_eq printed }
+server = record {
+  quiet = true;
+  willing = true;
+  plugin = [];
+  newer = false;
+  ends = Eof;
+  old_status = false;
+  prints = bytes_eq printed;
+}
 
 -- the name of the schema
 abbrev pub schema : List ℕ
@@ -36,7 +44,8 @@ schema_text = codes "CREATE DATABASE `s`"
 
 -- the text that makes the table
 abbrev pub table_text : List ℕ
-table_text = codes "CREATE TABLE `t` (`id` int NOT NULL, `a` varchar(9), PRIMARY KEY (`id`)) ENGINE=InnoDB"
+table_text = codes
+    "CREATE TABLE `t` (`id` int NOT NULL, `a` varchar(9), PRIMARY KEY (`id`)) ENGINE=InnoDB"
 
 -- the column of the key, an INT
 abbrev pub id : Column
@@ -48,11 +57,31 @@ a = record { name = codes "a"; data_type = codes "varchar"; unsigned = false; ge
 
 -- the schema, as it stands in a database
 abbrev pub the_schema : Object
-the_schema = record { kind = Schema; schema = schema; name = schema; text = schema_text; settings = None; columns = []; key = None; rank = 0; needs = [] }
+the_schema = record {
+  kind = Schema;
+  schema = schema;
+  name = schema;
+  text = schema_text;
+  settings = None;
+  columns = [];
+  key = None;
+  rank = 0;
+  needs = [];
+}
 
 -- the table, as it stands in a database
 abbrev pub the_table : Object
-the_table = record { kind = Table; schema = schema; name = table; text = table_text; settings = None; columns = id ∷ a ∷ []; key = Some 0; rank = 0; needs = [] }
+the_table = record {
+  kind = Table;
+  schema = schema;
+  name = table;
+  text = table_text;
+  settings = None;
+  columns = id ∷ a ∷ [];
+  key = Some 0;
+  rank = 0;
+  needs = [];
+}
 
 -- a row of the table: the key, as it is spelled, and the other cell
 abbrev pub row : List ℕ → Cell → List Cell
@@ -104,11 +133,13 @@ history = no_rows ++ marked position (put one ∷ put two ∷ []) ∷ []
 
 -- a table with this row alone
 abbrev pub row_of_table : Object → List Cell → TableRows
-row_of_table object cells = record { table = record { schema = object.schema; name = object.name }; rows = cells ∷ [] }
+row_of_table object cells =
+    record { table = record { schema = object.schema; name = object.name }; rows = cells ∷ [] }
 
 -- the schema and a table, with these rows
 abbrev pub table_with : Object → List (List Cell) → Database
-table_with object rows = record { objects = the_schema ∷ object ∷ []; rows = map (row_of_table object) rows }
+table_with object rows =
+    record { objects = the_schema ∷ object ∷ []; rows = map (row_of_table object) rows }
 
 -- the schema and the worked table, with these rows
 abbrev pub with_rows : List (List Cell) → Database
