@@ -12,7 +12,7 @@ use Rattle.result_rows.specs.RowCells.{row_cells}
 use Rattle.result_rows.specs.declared.row.Row.{Row}
 use Rattle.sql_cells.specs.Literal.{Cell}
 use Rattle.statement_forms.specs.declared.form.Form.TheVariants.{Select}
-use Rattle.dumper_cli.specs.Next.{IsReady, HasRows, Keeps, ColumnAdded, ColumnsEnd, RowAdded, RowsEnd, Broke}
+use Rattle.dumper_cli.specs.Next.{IsReady, HasPendingRows, Keeps, ColumnAdded, ColumnsEnd, RowAdded, RowsEnd, Broke}
 use Rattle.dumper_cli.specs.Run.{Start, Reached, Halted}
 use Rattle.dumper_cli.specs.Stage.{Stage, awaits_columns, awaits_rows, awaiting, doing}
 use Rattle.dumper_cli.specs.Taking.{AddsColumn, Untold, AddsRow, Unspelled, Unwritten}
@@ -31,11 +31,11 @@ module _ {L : Type 0} (of : LinkGhosts L) (joins : (one next last : L) → of.sa
   pub nexts_keeps : (result : Result (Option Row) SessionFault) → Nexts of old result new → Keeps of old new
   nexts_keeps result next = Keeps-by of joins old new next.0.keeps.tells next.0.keeps.counted.later next.1.honest next.1.origin next.0.keeps.peer
 
-  module _ (has_rows : HasRows old) where
+  module _ (has_rows : HasPendingRows old) where
     -- ---- a row
 
     module _ (found : Row) (next : Nexts of old (Ok (Some found)) new) where
-      rows_still : HasRows new
+      rows_still : HasPendingRows new
       rows_still =
           let same : new.pending ≡ old.pending = next.0.pending in
           record {

@@ -7,7 +7,7 @@ use Rattle.my_session.specs.Session.{SessionView, wire_of, fresh, LoggedIn, Logi
 use Rattle.my_session.specs.declared.fault.SessionFault.{SessionFault}
 use Rattle.my_session.specs.declared.fault.SessionFault.TheVariants.{Link, Refused, Garbled, NotProtocol10, PluginUnsupported, TooLong, StreamTooLong, OutOfMemory}
 use Rattle.my_session.specs.declared.session.TheConstants.{QUIT}
-use Rattle.dumper_cli.specs.Next.{IsReady, Stands, Broke}
+use Rattle.dumper_cli.specs.Next.{IsReady, StandsStill, Broke}
 use Rattle.dumper_cli.specs.OverLink.{Tabled, Conversed, LinkDumped, StoppedOver, FrontSaid, LinkStopped}
 use Rattle.dumper_cli.specs.Run.{Start, Reached, SaidFront, StoppedBy}
 use Rattle.dumper_cli.specs.Stage.{Stage, sends_names, awaits_rows}
@@ -29,7 +29,7 @@ Rose-further a b c rose le = omega arith
 
 module _ {L : Type 0} (of : LinkGhosts L) (asked : Asked) where
   -- a run that stands at a stage
-  pub Reached-stands : (stage : Stage) (start : Start) (now : SessionView L) → Reached of asked stage start now → Stands of asked start now.link
+  pub Reached-stands : (stage : Stage) (start : Start) (now : SessionView L) → Reached of asked stage start now → StandsStill of asked start now.link
   Reached-stands stage start now at = record { later = at.later; front = λ t. record { stage = stage; wire = wire_of of now; comes = at.comes t; sent_is = refl } }
 
   -- a link at a run's start

@@ -5,7 +5,7 @@ use Rattle.link_traits.specs.Cause.{Rose}
 use Rattle.link_traits.specs.declared.link.Link.{Ghosts}
 use Rattle.my_session.specs.Awaited.{further, further_fault}
 use Rattle.my_session.specs.Halt.{Halts}
-use Rattle.my_session.specs.Session.{SessionView, Pending, wire_of, IsCounted, Runs, Asks, HearsRow, HearsEnd, rows_of}
+use Rattle.my_session.specs.Session.{SessionView, Pending, wire_of, IsCounted, Runs, Asks, HearsRow, HearsEnd, rows_awaited}
 use Rattle.my_session.specs.Wire.{Hears}
 use Rattle.my_session.specs.declared.peer.Peer.{Peer}
 use Rattle.my_session.specs.declared.fault.SessionFault.{SessionFault}
@@ -19,9 +19,9 @@ use Rattle.statement_forms.specs.declared.command.Command.TheVariants.{NamesBina
 use Rattle.statement_forms.specs.declared.form.Form.{Form}
 use Rattle.statement_forms.specs.declared.form.Form.TheVariants.{Select}
 use Rattle.statement_forms.specs.declared.query.Query.TheVariants.{Columns as ColumnsQuery, Rows}
-use Rattle.dumper_cli.specs.Columns.{column_of, is_row_of}
+use Rattle.dumper_cli.specs.Columns.{column_from, is_row_of}
 use Rattle.dumper_cli.specs.Course.{Comes, heard, at_unfit, awaiting_it}
-use Rattle.dumper_cli.specs.Next.{Keeps, HasRows}
+use Rattle.dumper_cli.specs.Next.{Keeps, HasPendingRows}
 use Rattle.dumper_cli.specs.Run.{Start, SaidFront, Reached, StoppedBy, Halted}
 use Rattle.dumper_cli.specs.Stage.{Stage, sends_names, awaits_names, asks_columns, awaits_column_count, awaits_columns, asks_rows, awaits_row_count, awaits_rows, is_over, awaiting, doing, stage_after, with_column, with_columns, stage_if, after_columns, after_rows, column_names}
 use Rattle.dumper_cli.specs.Words.{Asked}
@@ -93,7 +93,7 @@ module _ {L : Type 0} (of : Ghosts L) (old new : SessionView L) where
 -- ---- the queries
 
 -- rows of a SELECT are pending after it
-pub HasRows-asked : {L : Type 0} (new : SessionView L) (ends : Ending) (columns : ℕ) → new.has_failed ≡ false → 0 < columns → ends ≡ new.peer.ends → new.pending ≡ record { reading = rows_of ends columns; form = Select } → HasRows new
+pub HasRows-asked : {L : Type 0} (new : SessionView L) (ends : Ending) (columns : ℕ) → new.has_failed ≡ false → 0 < columns → ends ≡ new.peer.ends → new.pending ≡ record { reading = rows_awaited ends columns; form = Select } → HasPendingRows new
 HasRows-asked new ends columns alive some same pending = record {
   ends = ap (λ (p : Pending). p.reading.ends) pending ∙ same;
   alive = alive;
@@ -110,15 +110,15 @@ row_turns columns reading message is = ap (λ (f : Further). after_rows reading 
 
 module _ {L : Type 0} (of : Ghosts L) (asked : Asked) (old new : SessionView L) where
   module _ (columns : ℕ) where
-    pub columns_asked : Keeps of old new → new.pending.reading ≡ rows_of old.peer.ends columns → (of.tells old.link → Asks old.peer.ends (ColumnsQuery asked.schema asked.table) (wire_of of old) (Ok columns) (wire_of of new)) → (start : Start) → Reached of asked (asks_columns old.peer.ends) start old → Reached of asked (awaits_columns new.pending.reading []) start new
+    pub columns_asked : Keeps of old new → new.pending.reading ≡ rows_awaited old.peer.ends columns → (of.tells old.link → Asks old.peer.ends (ColumnsQuery asked.schema asked.table) (wire_of of old) (Ok columns) (wire_of of new)) → (start : Start) → Reached of asked (asks_columns old.peer.ends) start old → Reached of asked (awaits_columns new.pending.reading []) start new
     columns_asked keeps pending asks start = reached_by of asked (asks_columns old.peer.ends) (awaits_columns new.pending.reading []) start old new keeps (λ t comes.
         subst (λ (r : Reading). Comes asked start.wire (awaits_columns r []) (wire_of of new)) (sym pending)
-        (described asked start.wire old.peer.ends (ColumnsQuery asked.schema asked.table) (asks_columns old.peer.ends) (awaits_column_count old.peer.ends) (λ reading. awaits_columns reading []) refl refl (λ message. refl) (λ reading. refl) column_turns (λ steps is. is) (λ steps awaited lead. lead) (λ steps payload lead. lead) (wire_of of old) (wire_of of new) comes (asks t).steps (rows_of old.peer.ends columns) (wire_of of new) refl (asks t).so (asks t).leads))
+        (described asked start.wire old.peer.ends (ColumnsQuery asked.schema asked.table) (asks_columns old.peer.ends) (awaits_column_count old.peer.ends) (λ reading. awaits_columns reading []) refl refl (λ message. refl) (λ reading. refl) column_turns (λ steps is. is) (λ steps awaited lead. lead) (λ steps payload lead. lead) (wire_of of old) (wire_of of new) comes (asks t).steps (rows_awaited old.peer.ends columns) (wire_of of new) refl (asks t).so (asks t).leads))
 
-    pub rows_asked : (list : List Column) → Keeps of old new → new.pending.reading ≡ rows_of old.peer.ends columns → (of.tells old.link → Asks old.peer.ends (Rows (column_names list) asked.schema asked.table) (wire_of of old) (Ok columns) (wire_of of new)) → (start : Start) → Reached of asked (asks_rows old.peer.ends list) start old → Reached of asked (awaits_rows new.pending.reading list []) start new
+    pub rows_asked : (list : List Column) → Keeps of old new → new.pending.reading ≡ rows_awaited old.peer.ends columns → (of.tells old.link → Asks old.peer.ends (Rows (column_names list) asked.schema asked.table) (wire_of of old) (Ok columns) (wire_of of new)) → (start : Start) → Reached of asked (asks_rows old.peer.ends list) start old → Reached of asked (awaits_rows new.pending.reading list []) start new
     rows_asked list keeps pending asks start = reached_by of asked (asks_rows old.peer.ends list) (awaits_rows new.pending.reading list []) start old new keeps (λ t comes.
         subst (λ (r : Reading). Comes asked start.wire (awaits_rows r list []) (wire_of of new)) (sym pending)
-        (described asked start.wire old.peer.ends (Rows (column_names list) asked.schema asked.table) (asks_rows old.peer.ends list) (awaits_row_count old.peer.ends list) (λ reading. awaits_rows reading list []) refl refl (λ message. refl) (λ reading. refl) (row_turns list) (λ steps is. is) (λ steps awaited lead. lead) (λ steps payload lead. lead) (wire_of of old) (wire_of of new) comes (asks t).steps (rows_of old.peer.ends columns) (wire_of of new) refl (asks t).so (asks t).leads))
+        (described asked start.wire old.peer.ends (Rows (column_names list) asked.schema asked.table) (asks_rows old.peer.ends list) (awaits_row_count old.peer.ends list) (λ reading. awaits_rows reading list []) refl refl (λ message. refl) (λ reading. refl) (row_turns list) (λ steps is. is) (λ steps awaited lead. lead) (λ steps payload lead. lead) (wire_of of old) (wire_of of new) comes (asks t).steps (rows_awaited old.peer.ends columns) (wire_of of new) refl (asks t).so (asks t).leads))
 
   module _ (fault : SessionFault) (tells : of.tells old.link ↔ of.tells new.link) (counted : IsCounted {A = ℕ} (of.faults old.link) (of.faults new.link) (Err fault)) where
     pub columns_unasked : (of.tells old.link → Asks old.peer.ends (ColumnsQuery asked.schema asked.table) (wire_of of old) (Err fault) (wire_of of new)) → (start : Start) → Reached of asked (asks_columns old.peer.ends) start old → Halted of asked start new.link fault
@@ -144,7 +144,7 @@ module _ {L : Type 0} (of : Ghosts L) (asked : Asked) (start : Start) (old new :
     row_goes_on : (message : List ℕ) → further_of old.pending.reading message ≡ row (row_cells found) → further_fault Select old.place (further_of old.pending.reading message) ≡ None
     row_goes_on message is = ap (λ (f : Further). further_fault Select old.place f) is
 
-    pub column_added : (columns more : List Column) (column : Column) → column_of (row_cells found) ≡ Some column → more ≡ columns ++ column ∷ [] → Reached of asked (awaits_columns old.pending.reading columns) start old → Reached of asked (awaits_columns old.pending.reading more) start new
+    pub column_added : (columns more : List Column) (column : Column) → column_from (row_cells found) ≡ Some column → more ≡ columns ++ column ∷ [] → Reached of asked (awaits_columns old.pending.reading columns) start old → Reached of asked (awaits_columns old.pending.reading more) start new
     column_added columns more column column_is more_is = reached_by of asked (awaits_columns old.pending.reading columns) (awaits_columns old.pending.reading more) start old new keeps (λ t comes.
         let row = hears t in
         heard comes refl row.heard (row_goes_on row.message row.row_is)
@@ -156,7 +156,7 @@ module _ {L : Type 0} (of : Ghosts L) (asked : Asked) (start : Start) (old new :
         heard comes refl row.heard (row_goes_on row.message row.row_is)
         (ap (λ (f : Further). after_rows old.pending.reading columns rows f) row.row_is ∙ ap (λ (b : Bool). stage_if b (awaits_rows old.pending.reading columns (rows ++ row_cells found ∷ []))) fits))
 
-    pub column_unfit : (columns : List Column) → column_of (row_cells found) ≡ None → Reached of asked (awaits_columns old.pending.reading columns) start old → Halted of asked start new.link (Garbled found.place)
+    pub column_unfit : (columns : List Column) → column_from (row_cells found) ≡ None → Reached of asked (awaits_columns old.pending.reading columns) start old → Halted of asked start new.link (Garbled found.place)
     column_unfit columns none = halted_by of asked (awaits_columns old.pending.reading columns) start old new.link (Garbled found.place) keeps.tells keeps.later (λ e. absurd (cc)) (λ t comes.
         let row = hears t in
         subst (λ (p : ℕ). Ends asked start.wire (Garbled p) (of.told new.link).sent) (sym row.place_is)

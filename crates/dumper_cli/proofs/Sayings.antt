@@ -19,7 +19,7 @@ use Rattle.sql_cells.specs.Literal.{Cell}
 use Rattle.statement_forms.specs.Text.{query_text}
 use Rattle.statement_forms.specs.declared.command.Command.TheVariants.{SetUp, NamesBinary}
 use Rattle.statement_forms.specs.declared.query.Query.TheVariants.{Columns as ColumnsQuery, Rows}
-use Rattle.dumper_cli.specs.Columns.{column_of, is_row_of}
+use Rattle.dumper_cli.specs.Columns.{column_from, is_row_of}
 use Rattle.dumper_cli.specs.Course.{Comes, at_start, commanded, answered, heard, AreOfLogin, AreAll, AllIsSaid}
 use Rattle.dumper_cli.specs.Stage.{Stage, awaits_greeting, sends_response, awaits_decision, sends_switch_answer, awaits_acceptance, sends_set_up, awaits_set_up, sends_names, awaits_names, asks_columns, awaits_column_count, awaits_columns, asks_rows, awaits_row_count, awaits_rows, is_over, commanding, answering, doing, stage_after, after_greeting, after_switch, after_decision, after_ok, after_count, with_column, with_columns, after_columns, stage_if, after_rows, column_names}
 use Rattle.dumper_cli.specs.Words.{Asked}
@@ -149,7 +149,7 @@ module _ (asked : Asked) (next : Stage) (sent : List (List ℕ)) where
 
   column_came : (reading : Reading) (columns : List Column) (further : Further) → after_columns reading columns further ≡ Some next → IsAfterLogin asked (columns_sent asked) sent → SaidAt asked next sent
   column_came reading columns definition is so = moved (awaits_columns (reading_after reading definition) columns) is so
-  column_came reading columns (row cells) is so = told reading columns (column_of cells) is so
+  column_came reading columns (row cells) is so = told reading columns (column_from cells) is so
   column_came reading columns end is so = all_told reading.ends columns is so
   column_came reading columns (refused refusal) is so = absurd (cc)
   column_came reading columns garbled is so = absurd (cc)

@@ -16,8 +16,8 @@ text_types = codes "char" ∷ codes "varchar" ∷ codes "tinytext" ∷ codes "te
     ∷ codes "timestamp" ∷ []
 
 -- the kind of literal that cells of such a column are written as; None for a type that can't be dumped
-abbrev pub kind_of : List ℕ → Option CellKind
-kind_of data_type =
+abbrev pub cell_kind_of : List ℕ → Option CellKind
+cell_kind_of data_type =
     if is_number_type data_type then Some Number else
     (if list_any (bytes_eq data_type) text_types then Some Text else None)
 
@@ -29,14 +29,14 @@ is_utf8 bytes = utf8_valid_len bytes == length bytes
 abbrev pub described : Cell → Cell → Cell → Cell → Option Column
 described (Some name) (Some data_type) (Some column_type) (Some extra) =
     if is_utf8 name && not (says_generated extra)
-    then option_map (λ kind. record { name = name; kind = kind }) (kind_of data_type) else None
+    then option_map (λ kind. record { name = name; kind = kind }) (cell_kind_of data_type) else None
 described name data_type column_type extra = None
 
 -- the column of a row that begins with these four
-abbrev pub column_of : List Cell → Option Column
-column_of (name ∷ data_type ∷ column_type ∷ extra ∷ more) =
+abbrev pub column_from : List Cell → Option Column
+column_from (name ∷ data_type ∷ column_type ∷ extra ∷ more) =
     described name data_type column_type extra
-column_of cells = None
+column_from cells = None
 
 -- a row of the table: as many cells as there are columns, each with a literal of its column's kind
 abbrev pub is_row_of : List Column → List Cell → Bool

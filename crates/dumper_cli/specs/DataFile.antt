@@ -32,24 +32,24 @@ insert_head table columns =
     ++ codes ") VALUES\n"
 
 -- a file so far: its bytes, and how many of them its last statement has
-pub record Text : Type 0 where
+pub record FileText : Type 0 where
   pub bytes : List ℕ
   pub size : ℕ
 
 -- a file of one row: the lines that set the session, and a statement
-abbrev pub first_row : List ℕ → List ℕ → Text
+abbrev pub first_row : List ℕ → List ℕ → FileText
 first_row head row = record { bytes = PREAMBLE.now ++ head ++ row; size = length (head ++ row) }
 
 -- a row goes into the last statement where that then has at most so many bytes, and else begins the next one
-abbrev pub with_row : List ℕ → Text → List ℕ → Text
-with_row head text row =
+abbrev pub text_with_row : List ℕ → FileText → List ℕ → FileText
+text_with_row head text row =
     if nat_le (text.size + 2 + length row) STATEMENT_SIZE
     then record { bytes = text.bytes ++ codes ",\n" ++ row; size = text.size + 2 + length row }
     else record { bytes = text.bytes ++ codes ";\n" ++ head ++ row; size = length (head ++ row) }
 
 -- a file of these rows, but for the end of its last statement
-abbrev pub text_of : List ℕ → List ℕ → List (List ℕ) → Text
-text_of head row rows = fold (with_row head) (first_row head row) rows
+abbrev pub rows_text : List ℕ → List ℕ → List (List ℕ) → FileText
+rows_text head row rows = fold (text_with_row head) (first_row head row) rows
 
 -- the data file's name: the schema, the table, and the number
 abbrev pub file_name : List ℕ → List ℕ → List ℕ
@@ -59,7 +59,7 @@ file_name schema table = schema ++ (46 ∷ []) ++ table ++ codes ".00000.sql"
 abbrev pub files_of : List ℕ → List ℕ → List (List ℕ) → List File
 files_of name head [] = []
 files_of name head (row ∷ rows) =
-    record { name = name; bytes = (text_of head row rows).bytes ++ codes ";\n" } ∷ []
+    record { name = name; bytes = (rows_text head row rows).bytes ++ codes ";\n" } ∷ []
 
 -- the files of a table with these columns and rows
 abbrev pub table_files : List ℕ → List ℕ → List Column → List (List Cell) → List File

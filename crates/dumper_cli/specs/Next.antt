@@ -23,7 +23,7 @@ pub record IsReady {L : Type 0} (session : SessionView L) : Type 0 where
   pub none_pending : session.pending.reading ≡ idle session.peer.ends
 
 -- rows of a SELECT are pending
-pub record HasRows {L : Type 0} (session : SessionView L) : Type 0 where
+pub record HasPendingRows {L : Type 0} (session : SessionView L) : Type 0 where
   pub alive : session.has_failed ≡ false
   pub some : 0 < session.pending.reading.columns
   pub rows : session.pending.reading.awaited ≡ 0
@@ -42,7 +42,7 @@ module _ {L : Type 0} (of : LinkGhosts L) where
   -- a row came, and with its column there are more
   pub record ColumnAdded (columns : List Column) (old : SessionView L) (more : List Column)
       (new : SessionView L) : Type 0 where
-    pub has_rows : HasRows new
+    pub has_rows : HasPendingRows new
     pub pending : new.pending ≡ old.pending
     pub onward : IsOnward old.place new.place
     pub reached : (asked : Asked) (start : Start) →
@@ -64,7 +64,7 @@ module _ {L : Type 0} (of : LinkGhosts L) where
   NextColumn false columns old all new = ColumnsEnd columns old all new
 
 -- the run stands still, as at a fault of the file: the messages of a front of it were sent
-pub record Stands {L : Type 0} (of : LinkGhosts L) (asked : Asked) (start : Start)
+pub record StandsStill {L : Type 0} (of : LinkGhosts L) (asked : Asked) (start : Start)
     (now : L) : Type 0 where
   pub later : start.faults ≤ of.faults now
   pub front : of.tells now → SaidFront asked start.wire (of.told now).sent
@@ -73,7 +73,7 @@ module _ {L S : Type 0} (link : LinkGhosts L) (shelf : ShelfGhosts S) where
   -- a row came, and was added to the file
   pub record RowAdded (columns : List Column) (old : SessionView L) (file : DataFile S shelf)
       (new : SessionView L) (new_file : DataFile S shelf) : Type 0 where
-    pub has_rows : HasRows new
+    pub has_rows : HasPendingRows new
     pub pending : new.pending ≡ old.pending
     pub onward : IsOnward old.place new.place
     pub cells : List Cell
@@ -105,7 +105,7 @@ module _ {L S : Type 0} (link : LinkGhosts L) (shelf : ShelfGhosts S) where
   abbrev pub Broke : Asked → Start → S → L → S → DumpFault → Type 0
   Broke asked start before new after (FolderNotEmpty name) = ⊥
   Broke asked start before new after File =
-      Stands link asked start new × Rose (shelf.faults before) (shelf.faults after)
+      StandsStill link asked start new × Rose (shelf.faults before) (shelf.faults after)
   Broke asked start before new after (InSession fault) = Halted link asked start new fault
 
   -- all rows were read and written to the file

@@ -19,7 +19,7 @@ use Rattle.statement_forms.specs.Text.{query_text}
 use Rattle.statement_forms.specs.declared.command.Command.TheVariants.{SetUp, NamesBinary}
 use Rattle.statement_forms.specs.declared.form.Form.TheVariants.{Connect, Set, Select}
 use Rattle.statement_forms.specs.declared.query.Query.TheVariants.{Columns as ColumnsQuery, Rows}
-use Rattle.dumper_cli.specs.Columns.{column_of, is_row_of}
+use Rattle.dumper_cli.specs.Columns.{column_from, is_row_of}
 use Rattle.dumper_cli.specs.Words.{Asked}
 use Rattle.dumper_cli.specs.declared.column.Column.{Column}
 
@@ -125,7 +125,7 @@ abbrev pub after_columns : Reading → List Column → Further → Option Stage
 after_columns reading columns definition =
     Some (awaits_columns (reading_after reading definition) columns)
 after_columns reading columns (row cells) =
-    with_column (awaits_columns reading) columns (column_of cells)
+    with_column (awaits_columns reading) columns (column_from cells)
 after_columns reading columns end = with_columns reading.ends columns
 after_columns reading columns (refused refusal) = None
 after_columns reading columns garbled = None

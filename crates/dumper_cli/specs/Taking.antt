@@ -5,7 +5,7 @@ use Rattle.link_traits.specs.declared.folder.Shelf.{Ghosts}
 use Rattle.my_session.specs.declared.fault.SessionFault.{SessionFault}
 use Rattle.my_session.specs.declared.fault.SessionFault.TheVariants.{Garbled, OutOfMemory}
 use Rattle.sql_cells.specs.Literal.{Cell}
-use Rattle.dumper_cli.specs.Columns.{column_of, is_row_of}
+use Rattle.dumper_cli.specs.Columns.{column_from, is_row_of}
 use Rattle.dumper_cli.specs.Writing.{IsWriting}
 use Rattle.dumper_cli.specs.declared.column.Column.{Column}
 use Rattle.dumper_cli.specs.declared.data_file.DataFile.{DataFile}
@@ -15,12 +15,12 @@ use Rattle.dumper_cli.specs.declared.fault.DumpFault.TheVariants.{FolderNotEmpty
 -- a row with these cells tells a column, which is added
 pub record AddsColumn (cells : List Cell) (old new : List Column) : Type 0 where
   pub column : Column
-  pub column_is : column_of cells ≡ Some column
+  pub column_is : column_from cells ≡ Some column
   pub new_is : new ≡ old ++ column ∷ []
 
 -- why a row, which came at this place, tells no column
 abbrev pub Untold : List Cell → ℕ → SessionFault → Type 0
-Untold cells place (Garbled at) = (at ≡ place) × (column_of cells ≡ None)
+Untold cells place (Garbled at) = (at ≡ place) × (column_from cells ≡ None)
 Untold cells place OutOfMemory = Unit {0}
 Untold cells place fault = ⊥
 

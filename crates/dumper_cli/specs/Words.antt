@@ -13,15 +13,15 @@ pub record Asked : Type 0 where
   pub path : List ℕ
 
 -- a letter, a digit or `_` of ASCII
-abbrev pub is_word_byte : ℕ → Bool
-is_word_byte byte =
+abbrev pub is_name_byte : ℕ → Bool
+is_name_byte byte =
     (nat_le 97 byte && nat_le byte 122) ||
     ((nat_le 65 byte && nat_le byte 90) || (is_digit byte || byte == 95))
 
 -- one to a hundred letters, digits and `_`
 abbrev pub is_plain_word : List ℕ → Bool
 is_plain_word word =
-    nat_le 1 (length word) && nat_le (length word) 100 && list_all is_word_byte word
+    nat_le 1 (length word) && nat_le (length word) 100 && list_all is_name_byte word
 
 -- a password or a path isn't empty and doesn't begin with `-`
 abbrev pub is_free_word : List ℕ → Bool

@@ -2,12 +2,12 @@
 use Rattle.std.specs.Prelude.{◌≡◌, ◌≤◌, ◌↔◌, ℕ, true, false, List, [], ◌∷◌, ◌++◌, length, map}
 use Rattle.link_traits.specs.declared.folder.Shelf.{Ghosts}
 use Rattle.sql_cells.specs.Literal.{Cell}
-use Rattle.dumper_cli.specs.DataFile.{Text, row_text, insert_head, text_of, file_name}
+use Rattle.dumper_cli.specs.DataFile.{FileText, row_text, insert_head, rows_text, file_name}
 use Rattle.dumper_cli.specs.declared.column.Column.{Column}
 use Rattle.dumper_cli.specs.declared.data_file.DataFile.{DataFile}
 
 -- the file has this text: its front was appended to the shelf, and what is left of it waits
-pub record Holds {S : Type 0} (of : Ghosts S) (text : Text) (file : DataFile S of) : Type 0 where
+pub record Holds {S : Type 0} (of : Ghosts S) (text : FileText) (file : DataFile S of) : Type 0 where
   pub begun : file.begun ≡ true
   pub size : file.size ≡ text.size
   pub front : List ℕ
@@ -19,7 +19,7 @@ pub record Holds {S : Type 0} (of : Ghosts S) (text : Text) (file : DataFile S o
 -- the file has these rows, and isn't begun where there is none
 abbrev pub HoldsRows : {S : Type 0} (of : Ghosts S) → List (List ℕ) → DataFile S of → Type 0
 HoldsRows of [] file = (file.begun ≡ false) × (file.waiting.bytes ≡ [])
-HoldsRows of (row ∷ rows) file = Holds of (text_of file.head.bytes row rows) file
+HoldsRows of (row ∷ rows) file = Holds of (rows_text file.head.bytes row rows) file
 
 -- these rows of the table were written to the file
 pub record IsWriting {S : Type 0} (of : Ghosts S) (schema table : List ℕ) (columns : List Column)

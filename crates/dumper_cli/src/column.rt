@@ -2,7 +2,7 @@
 ghost use Rattle.std.specs.Prelude.{◌≡◌, true, false, IfOk, MatchOption, bytes_eq, option_copied};
 ghost use Rattle.std.specs.List.{list_any};
 ghost use Rattle.result_rows.specs.RowCells.{row_cells};
-ghost use Rattle.dumper_cli.specs.Columns.{kind_of, is_utf8, described, column_of};
+ghost use Rattle.dumper_cli.specs.Columns.{cell_kind_of, is_utf8, described, column_from};
 ghost use Rattle.honest_server.specs.Answer.{has_bytes, says_generated};
 
 use plain_data::{Name, OutOfMemory, Plain, PlainList};
@@ -64,7 +64,7 @@ fn is_among(name: &[u8], names: &[&str]) -> bool
 
 // How the cells of a type are written, where they can be.
 fn kind_of(data_type: &[u8]) -> Option<CellKind>
-    ensures { result ≡ kind_of data_type.now }
+    ensures { result ≡ cell_kind_of data_type.now }
 {
     if is_among(data_type, &NUMBER_TYPES) {
         return Some(CellKind::Number);
@@ -139,7 +139,7 @@ fn described(
 /// Manual, 28.3.8.)
 #[tactic(auto, using(crate::proofs::Rows::column_of_cells, crate::proofs::Rows::too_short))]
 pub fn column_of(alloc: Global, row: &Row<'_>) -> Result<Option<Column>, OutOfMemory>
-    ensures { IfOk result (λ found. found ≡ column_of (row_cells row.now)) }
+    ensures { IfOk result (λ found. found ≡ column_from (row_cells row.now)) }
 {
     if row.columns() < 4 {
         return Ok(None);

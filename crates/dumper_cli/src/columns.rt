@@ -2,7 +2,7 @@
 ghost use Rattle.std.specs.Prelude.{◌<◌, [], length, IfErr, IfOk, OnOk};
 ghost use Rattle.result_rows.specs.RowCells.{row_cells};
 ghost use Rattle.dumper_cli.specs.AskedBy.{asked_by};
-ghost use Rattle.dumper_cli.specs.Next.{IsReady, HasRows, Keeps, NextColumn};
+ghost use Rattle.dumper_cli.specs.Next.{IsReady, HasPendingRows, Keeps, NextColumn};
 ghost use Rattle.dumper_cli.specs.Run.{Reached, Halted};
 ghost use Rattle.dumper_cli.specs.Stage.{asks_columns, awaits_columns, asks_rows};
 ghost use Rattle.dumper_cli.specs.Taking.{AddsColumn, Untold};
@@ -20,7 +20,7 @@ fn ask_columns<L: Link>(session: &mut Session<L>, words: &Words<'_>) -> Result<(
     requires ready { IsReady session.old }
 
     ensures keeps { Keeps L.Link session.old session.new }
-    ensures rows { OnOk result (HasRows session.new) }
+    ensures rows { OnOk result (HasPendingRows session.new) }
     ensures ok { OnOk result ((start : _) → Reached L.Link (asked_by words.now) (asks_columns session.old.peer.ends) start session.old → Reached L.Link (asked_by words.now) (awaits_columns session.new.pending.reading []) start session.new) }
     ensures err { IfErr result (λ fault. (start : _) → Reached L.Link (asked_by words.now) (asks_columns session.old.peer.ends) start session.old → Halted L.Link (asked_by words.now) start session.new.link fault) }
 {
@@ -57,7 +57,7 @@ fn next_column<L: Link>(
     alloc: Global,
     columns: &mut ColumnList,
 ) -> Result<bool, SessionFault>
-    requires rows { HasRows session.old }
+    requires rows { HasPendingRows session.old }
 
     ensures keeps { Keeps L.Link session.old session.new }
     ensures ok { IfOk result (λ goes_on. NextColumn L.Link goes_on columns.old session.old columns.new session.new) }

@@ -2,7 +2,7 @@
 ghost use Rattle.std.specs.Prelude.{◌≡◌, ◌<◌, ◌≤◌, ◌↔◌, [], length, false, IfErr, IfOk, OnOk, OnErr};
 ghost use Rattle.my_session.specs.InStep.{GreetingWaits};
 ghost use Rattle.dumper_cli.specs.AskedBy.{asked_by};
-ghost use Rattle.dumper_cli.specs.Next.{IsReady, HasRows, Keeps, Broke};
+ghost use Rattle.dumper_cli.specs.Next.{IsReady, HasPendingRows, Keeps, Broke};
 ghost use Rattle.dumper_cli.specs.OverLink.{Tabled, Conversed, LinkDumped, LinkStopped};
 ghost use Rattle.dumper_cli.specs.Run.{Reached, Halted};
 ghost use Rattle.dumper_cli.specs.Stage.{sends_names, asks_columns, asks_rows, awaits_rows};
@@ -40,7 +40,7 @@ fn ask<L: Link>(
     requires ready { IsReady session.old }
 
     ensures keeps { Keeps L.Link session.old session.new }
-    ensures rows { IfOk result (λ _. HasRows session.new) }
+    ensures rows { IfOk result (λ _. HasPendingRows session.new) }
     ensures ok { IfOk result (λ columns. (start : _) → Reached L.Link (asked_by words.now) (sends_names session.old.peer.ends) start session.old → Reached L.Link (asked_by words.now) (awaits_rows session.new.pending.reading columns []) start session.new) }
     ensures err { IfErr result (λ fault. (start : _) → Reached L.Link (asked_by words.now) (sends_names session.old.peer.ends) start session.old → Halted L.Link (asked_by words.now) start session.new.link fault) }
 {
@@ -65,7 +65,7 @@ fn copy_table<L: Link, S: Shelf>(
     words: &Words<'_>,
     columns: &[Column],
 ) -> (S, Result<(), DumpFault>)
-    requires rows { HasRows session.old }
+    requires rows { HasPendingRows session.old }
     requires none_begun { S.is_begun shelf ≡ false }
     requires none_made { S.tells shelf → (S.told shelf).made ≡ [] }
 

@@ -2,7 +2,7 @@
 ghost use Rattle.std.specs.Prelude.{◌<◌, [], IfErr, IfOk, OnOk, length};
 ghost use Rattle.result_rows.specs.RowCells.{row_cells};
 ghost use Rattle.dumper_cli.specs.AskedBy.{asked_by};
-ghost use Rattle.dumper_cli.specs.Next.{IsReady, HasRows, Keeps, CopiesRow, Broke, Copied};
+ghost use Rattle.dumper_cli.specs.Next.{IsReady, HasPendingRows, Keeps, CopiesRow, Broke, Copied};
 ghost use Rattle.dumper_cli.specs.Run.{Reached, Halted};
 ghost use Rattle.dumper_cli.specs.Stage.{asks_rows, awaits_rows};
 ghost use Rattle.dumper_cli.specs.Taking.{AddsRow, Unwritten};
@@ -30,7 +30,7 @@ pub fn ask_rows<L: Link>(
     requires some { 0 < length columns.now }
 
     ensures keeps { Keeps L.Link session.old session.new }
-    ensures rows { OnOk result (HasRows session.new) }
+    ensures rows { OnOk result (HasPendingRows session.new) }
     ensures ok { OnOk result ((start : _) → Reached L.Link (asked_by words.now) (asks_rows session.old.peer.ends columns.now) start session.old → Reached L.Link (asked_by words.now) (awaits_rows session.new.pending.reading columns.now []) start session.new) }
     ensures err { IfErr result (λ fault. (start : _) → Reached L.Link (asked_by words.now) (asks_rows session.old.peer.ends columns.now) start session.old → Halted L.Link (asked_by words.now) start session.new.link fault) }
 {
@@ -76,7 +76,7 @@ fn copy_row<L: Link, S: Shelf>(
     columns: &[Column],
     file: &mut DataFile<S>,
 ) -> Result<bool, DumpFault>
-    requires rows { HasRows session.old }
+    requires rows { HasPendingRows session.old }
 
     ensures keeps { Keeps L.Link session.old session.new }
     ensures keeps_file { KeepsFile S.Shelf file.old file.new }
@@ -99,7 +99,7 @@ pub fn copy_rows<L: Link, S: Shelf>(
     columns: &[Column],
     file: &mut DataFile<S>,
 ) -> Result<(), DumpFault>
-    requires rows { HasRows session.old }
+    requires rows { HasPendingRows session.old }
 
     ensures keeps { Keeps L.Link session.old session.new }
     ensures keeps_file { KeepsFile S.Shelf file.old file.new }

@@ -4,7 +4,7 @@ ghost use Rattle.link_traits.specs.Cause.{Rose, HasCause};
 ghost use Rattle.link_traits.specs.Folder.{told_after_append, files_after_finish};
 ghost use Rattle.result_rows.specs.RowCells.{row_cells};
 ghost use Rattle.dumper_cli.specs.Columns.{is_row_of};
-ghost use Rattle.dumper_cli.specs.DataFile.{Text, row_text, first_row, with_row, insert_head, file_name, table_files};
+ghost use Rattle.dumper_cli.specs.DataFile.{FileText, row_text, first_row, text_with_row, insert_head, file_name, table_files};
 
 use crate::column::Column;
 use crate::row_text::{RowFault, bytes_into, later_row_into, names_into, row_into, statement_into};
@@ -190,7 +190,7 @@ impl<S: Shelf> DataFile<S> {
     fn go_on(&mut self) -> Result<(), WriteFault>
         ensures kept { KeepsFile S.Shelf self.old self.new }
         ensures begun { self.new.begun ≡ self.old.begun }
-        ensures ok { OnOk result ((text : Text) → Holds S.Shelf text self.old → Holds S.Shelf (with_row self.old.head.bytes text self.old.spelled.bytes) self.new) }
+        ensures ok { OnOk result ((text : FileText) → Holds S.Shelf text self.old → Holds S.Shelf (text_with_row self.old.head.bytes text self.old.spelled.bytes) self.new) }
         ensures same { OnErr result (IsSame S.Shelf self.old self.new) }
         ensures out_of_memory { IfErr result (λ fault. fault ≡ WriteFault.OutOfMemory) }
     {
@@ -228,7 +228,7 @@ impl<S: Shelf> DataFile<S> {
         requires { self.old.begun ≡ true }
 
         ensures kept { KeepsFile S.Shelf self.old self.new }
-        ensures ok { OnOk result ((text : Text) → Holds S.Shelf text self.old → Holds S.Shelf text self.new) }
+        ensures ok { OnOk result ((text : FileText) → Holds S.Shelf text self.old → Holds S.Shelf text self.new) }
         ensures waits { OnOk result (length self.new.waiting.bytes < WAITING_SIZE) }
         ensures file { IfErr result (λ fault. fault ≡ WriteFault.File) }
         ensures cause { result ≡ Err WriteFault.File → Rose (S.faults self.old.shelf) (S.faults self.new.shelf) }

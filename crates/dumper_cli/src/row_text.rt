@@ -4,7 +4,7 @@ ghost use Rattle.result_rows.specs.RowCells.{row_cells};
 ghost use Rattle.sql_cells.specs.Literal.{literal, has_literal};
 ghost use Rattle.sql_cells.specs.Name.{quoted_name};
 ghost use Rattle.dumper_cli.specs.Columns.{is_row_of};
-ghost use Rattle.dumper_cli.specs.DataFile.{led, quoted_names, literals, row_text, with_row};
+ghost use Rattle.dumper_cli.specs.DataFile.{led, quoted_names, literals, row_text, text_with_row};
 
 use crate::column::Column;
 use crate::data_file::STATEMENT_SIZE;
@@ -168,7 +168,7 @@ pub fn later_row_into(
     row: &[u8],
     out: &mut Buffer,
 ) -> Result<usize, OutOfMemory>
-    ensures ok { IfOk result (λ after. with_row head.now (record { bytes = out.old.bytes; size = size }) row.now ≡ record { bytes = out.new.bytes; size = after }) }
+    ensures ok { IfOk result (λ after. text_with_row head.now (record { bytes = out.old.bytes; size = size }) row.now ≡ record { bytes = out.new.bytes; size = after }) }
     ensures err { OnErr result (out.new.bytes ≡ out.old.bytes) }
 {
     let whole = size.saturating_add(row.len()).saturating_add(2);

@@ -2,7 +2,7 @@
 ghost use Rattle.std.specs.Prelude.{◌≡◌, Some, None, MatchOption};
 ghost use Rattle.std.specs.List.{list_all};
 ghost use Rattle.dumper_cli.specs.AskedBy.{asked_by};
-ghost use Rattle.dumper_cli.specs.Words.{is_word_byte, is_plain_word, is_free_word, are_options, is_password, are_words, without_password, with_password, asked_of};
+ghost use Rattle.dumper_cli.specs.Words.{is_name_byte, is_plain_word, is_free_word, are_options, is_password, are_words, without_password, with_password, asked_of};
 
 use plain_data::{Name, NameList};
 
@@ -19,13 +19,13 @@ pub struct Words<'a> {
 
 // A letter, a digit or `_` of ASCII.
 fn is_word_byte(byte: u8) -> bool
-    ensures { result ≡ is_word_byte byte }
+    ensures { result ≡ is_name_byte byte }
 {
     matches!(byte, b'a'..=b'z' | b'A'..=b'Z' | b'0'..=b'9' | b'_')
 }
 
 fn are_word_bytes(bytes: &[u8]) -> bool
-    ensures { result ≡ list_all is_word_byte bytes.now }
+    ensures { result ≡ list_all is_name_byte bytes.now }
 {
     bytes.iter().all(|byte| is_word_byte(*byte))
 }

@@ -23,8 +23,8 @@ use Rattle.honest_server.specs.Effect.{EndsOpen, IsMade, MadeIn}
 use Rattle.honest_server.specs.Moves.{MayFollow, plainly}
 use Rattle.honest_server.specs.Serve.{CameBefore, FitsNowhere, done, rows, refused, Serves}
 use Rattle.honest_server.specs.State.{State, with_own, with_others}
-use Rattle.honest_examples.specs.Answered.{columns, no_table}
-use Rattle.honest_examples.specs.Effects.{ACommitWaitsForTheReadLock, AnEmptyTransactionEndsUnderTheReadLock, begun, ARollbackDropsTheTransaction, ASnapshotShowsWhatWasSeen, AnErrBreaksOffAnAnswer, unwilling, ASchemaIsUsedWhereItIsThere, ASelectShowsTheSnapshot, ATableIsMadeInTheCurrentSchema, AnInsertIsCommittedAtOnce, TheBackupLockStopsACreate, frozen, guarded, insert, link, opened, viewing, with_three, worked}
+use Rattle.honest_examples.specs.Answered.{columns, no_table_err}
+use Rattle.honest_examples.specs.Effects.{ACommitWaitsForTheReadLock, AnEmptyTransactionEndsUnderTheReadLock, open_state, ARollbackDropsTheTransaction, ASnapshotShowsWhatWasSeen, AnErrBreaksOffAnAnswer, unwilling, ASchemaIsUsedWhereItIsThere, ASelectShowsTheSnapshot, ATableIsMadeInTheCurrentSchema, AnInsertIsCommittedAtOnce, TheBackupLockStopsACreate, frozen, guarded, insert, link, opened, viewing, with_three, worked}
 use Rattle.honest_examples.specs.Worked.{database, history, no_rows, one, put, schema, schema_alone, table, table_text, the_schema, the_table, three, two, unmarked, with_rows}
 use Rattle.honest_examples.proofs.Bags.{first_of_two, other_order, same_rows, some_row}
 use Rattle.honest_examples.proofs.Changes.{keeps_nothing, keeps_three, makes_nothing}
@@ -73,18 +73,18 @@ commits = record {
     never (refused found refusal) new effect = effect
 
 -- under the read lock nothing is committed
-ends_alone : (new : State) → EndsOpen (frozen begun) (Some []) new → new ≡ frozen worked
+ends_alone : (new : State) → EndsOpen (frozen open_state) (Some []) new → new ≡ frozen worked
 ends_alone new (inl ended) = ended
 ends_alone new (inr commits) = absurd (cc (commits.follows.frozen refl))
 
-empty_alone : (new : State) → Serves plainly (frozen begun) (SomeCommand Commit) done new → new ≡ frozen worked
-empty_alone new served = ends_alone new (subst (λ (more : List Transaction). EndsOpen (with_others (frozen begun) more) (Some []) new) (served.sees.sole refl refl) served.handles)
+empty_alone : (new : State) → Serves plainly (frozen open_state) (SomeCommand Commit) done new → new ≡ frozen worked
+empty_alone new served = ends_alone new (subst (λ (more : List Transaction). EndsOpen (with_others (frozen open_state) more) (Some []) new) (served.sees.sole refl refl) served.handles)
 
 pub empty_ends : AnEmptyTransactionEndsUnderTheReadLock
 empty_ends = record {
-  allowed = serves_done (frozen begun) (SomeCommand Commit) (frozen worked) (free history (Some schema) true None (Some []) refl) (inl refl);
+  allowed = serves_done (frozen open_state) (SomeCommand Commit) (frozen worked) (free history (Some schema) true None (Some []) refl) (inl refl);
   nothing_else = empty_alone;
-  started = serves_done (frozen begun) (SomeCommand Start) (frozen begun) (free history (Some schema) true None (Some []) refl) (record { middle = frozen worked; ended = inl refl; new_is = refl });
+  started = serves_done (frozen open_state) (SomeCommand Start) (frozen open_state) (free history (Some schema) true None (Some []) refl) (record { middle = frozen worked; ended = inl refl; new_is = refl });
   marked = record { more = []; sees = (free history (Some schema) false None (Some []) refl).nothing; handles = inr (record { one = unmarked []; changes_are = refl; follows = may_follow history (Some schema) (Some []) (unmarked [] ∷ []); sound = sound_with_none; new_is = refl }); ends = tt };
   refused = λ served. absurd (cc (ap (λ (state : State). state.mine) (empty_alone _ served)));
 }
@@ -187,11 +187,11 @@ pub uses : ASchemaIsUsedWhereItIsThere
 unfolding has_object
 uses = record {
   allowed = serves_done (link history None) (SomeCommand (Use schema)) worked (free history None false None None refl) (record { database = database; stands = stands; is_there = refl; new_is = refl });
-  refused = refuses (link history None) (SomeCommand (Use no_table)) (free history None false None None refl) never;
+  refused = refuses (link history None) (SomeCommand (Use no_table_err)) (free history None false None None refl) never;
 }
   where
-    never : FitsNowhere plainly (link history None) (SomeCommand (Use no_table)) []
-    never done new found = false≢true (subst (λ (end : Database). has_object end Schema no_table no_table ≡ true) (same_some (sym found.stands ∙ stands)) found.is_there)
+    never : FitsNowhere plainly (link history None) (SomeCommand (Use no_table_err)) []
+    never done new found = false≢true (subst (λ (end : Database). has_object end Schema no_table_err no_table_err ≡ true) (same_some (sym found.stands ∙ stands)) found.is_there)
     never (rows found) new effect = effect
     never (refused found refusal) new effect = effect
 

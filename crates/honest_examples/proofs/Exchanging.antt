@@ -26,7 +26,7 @@ use Rattle.honest_server.specs.Serve.{Reply, Serves, done, rows, refused}
 use Rattle.honest_server.specs.Spelled.{IsLeanFront, IsLeanSet, Spells}
 use Rattle.honest_server.specs.State.{Phase, Server, State, in_session, with_others}
 use Rattle.honest_examples.specs.Effects.{worked}
-use Rattle.honest_examples.specs.Exchanges.{ACommandIsAnsweredByOneMessage, ACommitIsAnsweredByAnOk, ALoginIsTaken, AnOkEndsAResultSet, AQueryIsAnsweredByItsRows, AQuitIsntAnswered, AreOk, commit, definition, eof, err, ending_ok, logging_in, ok, only, set_before, set_without_eof}
+use Rattle.honest_examples.specs.Exchanges.{ACommandIsAnsweredByOneMessage, ACommitIsAnsweredByAnOk, ALoginIsTaken, AnOkEndsAResultSet, AQueryIsAnsweredByItsRows, AQuitIsntAnswered, AreOk, commit, definition, eof_packet, err, ending_ok_packet, logging_in, ok, only, set_before, short_set}
 use Rattle.honest_examples.specs.Worked.{history, schema, server}
 use Rattle.honest_examples.proofs.Reading.{read}
 use Rattle.honest_examples.proofs.Texts.{one_statement}
@@ -52,22 +52,22 @@ one_message = record {
 
 lean : (last : List ℕ) → length last ≤ 16777216 → IsLeanSet Schemas (only schema) (set_before last)
 lean last short = record {
-  front = (1 ∷ []) ∷ definition ∷ eof ∷ [];
+  front = (1 ∷ []) ∷ definition ∷ eof_packet ∷ [];
   row_messages = (1 ∷ codes "s") ∷ [];
   last = last;
   messages_are = refl;
-  front_lean = All-cons (IsLeanFront Schemas) (1 ∷ []) (definition ∷ eof ∷ []) (omega arith) (All-cons (IsLeanFront Schemas) definition (eof ∷ []) (omega arith) (All-cons (IsLeanFront Schemas) eof [] (omega arith) (All-nil _)));
+  front_lean = All-cons (IsLeanFront Schemas) (1 ∷ []) (definition ∷ eof_packet ∷ []) (omega arith) (All-cons (IsLeanFront Schemas) definition (eof_packet ∷ []) (omega arith) (All-cons (IsLeanFront Schemas) eof_packet [] (omega arith) (All-nil _)));
   rows_lean = (omega arith, tt);
   last_lean = short;
 }
 
-set : IsResultSet Eof 1 ((Some schema ∷ []) ∷ []) (set_before eof)
+set : IsResultSet Eof 1 ((Some schema ∷ []) ∷ []) (set_before eof_packet)
 set = record {
   count = 1 ∷ [];
   definitions = definition ∷ [];
-  between = eof ∷ [];
+  between = eof_packet ∷ [];
   row_messages = (1 ∷ codes "s") ∷ [];
-  last = eof;
+  last = eof_packet;
   messages_are = refl;
   count_is = refl;
   definitions_are = (refl, tt);
@@ -80,16 +80,16 @@ set = record {
 pub its_rows : AQueryIsAnsweredByItsRows
 unfolding short_text
 its_rows = record {
-  allowed = record { columns = 1; is_set = set; lean = λ p. lean eof (omega arith) };
-  broken_off = inr (record { columns = 1; first = 1 ∷ []; others = definition ∷ eof ∷ (1 ∷ codes "s") ∷ err ∷ []; messages_are = refl; counts = refl; turns = refl; lean = λ p. lean err (omega arith) });
+  allowed = record { columns = 1; is_set = set; lean = λ p. lean eof_packet (omega arith) };
+  broken_off = inr (record { columns = 1; first = 1 ∷ []; others = definition ∷ eof_packet ∷ (1 ∷ codes "s") ∷ err ∷ []; messages_are = refl; counts = refl; turns = refl; lean = λ p. lean err (omega arith) });
   other_rows = λ spells. other (set-taken _ _ _ _ spells.is_set);
   refused = λ found spells. no_single _ _ _ ok spells.is_set;
 }
   where
-    turned : (columns : ℕ) (first : List ℕ) (others : List (List ℕ)) → columns ≡ 1 → others ≡ definition ∷ eof ∷ (1 ∷ codes "s") ∷ eof ∷ [] → turns_of (columns_counted Eof columns) others ≡ replicate (columns + 1) turn_definition ++ (map row ((Some (codes "ss") ∷ []) ∷ []) ++ end ∷ []) → ⊥
+    turned : (columns : ℕ) (first : List ℕ) (others : List (List ℕ)) → columns ≡ 1 → others ≡ definition ∷ eof_packet ∷ (1 ∷ codes "s") ∷ eof_packet ∷ [] → turns_of (columns_counted Eof columns) others ≡ replicate (columns + 1) turn_definition ++ (map row ((Some (codes "ss") ∷ []) ∷ []) ++ end ∷ []) → ⊥
     turned columns first others is_one are turns = absurd (cc (subst (λ (others : List (List ℕ)). turns_of (columns_counted Eof 1) others ≡ replicate 2 turn_definition ++ (map row ((Some (codes "ss") ∷ []) ∷ []) ++ end ∷ [])) are (subst (λ (columns : ℕ). turns_of (columns_counted Eof columns) others ≡ replicate (columns + 1) turn_definition ++ (map row ((Some (codes "ss") ∷ []) ∷ []) ++ end ∷ [])) is_one turns)))
 
-    other : {columns : ℕ} → IsTaken Eof columns ((Some (codes "ss") ∷ []) ∷ []) (set_before eof) → ⊥
+    other : {columns : ℕ} → IsTaken Eof columns ((Some (codes "ss") ∷ []) ∷ []) (set_before eof_packet) → ⊥
     other {columns} is_taken = turned columns is_taken.first is_taken.others one_column (sym (ap (λ (messages : List (List ℕ)). drop 1 messages) is_taken.messages_are)) is_taken.turns
       where
         counts : Some (Columns 1) ≡ Some (Columns columns)
@@ -125,13 +125,13 @@ no_garbled : (found : List (List SentCell)) (others : List Further) → garbled 
 no_garbled [] others is = cc
 no_garbled (cells ∷ found) others is = cc
 
-set_ok : IsResultSet Ok 1 ((Some schema ∷ []) ∷ []) (set_without_eof ending_ok)
+set_ok : IsResultSet Ok 1 ((Some schema ∷ []) ∷ []) (short_set ending_ok_packet)
 set_ok = record {
   count = 1 ∷ [];
   definitions = definition ∷ [];
   between = [];
   row_messages = (1 ∷ codes "s") ∷ [];
-  last = ending_ok;
+  last = ending_ok_packet;
   messages_are = refl;
   count_is = refl;
   definitions_are = (refl, tt);
@@ -141,7 +141,7 @@ set_ok = record {
   last_is = refl;
 }
 
-lean_ok : (last : List ℕ) → length last ≤ 16777216 → IsLeanSet Schemas (only schema) (set_without_eof last)
+lean_ok : (last : List ℕ) → length last ≤ 16777216 → IsLeanSet Schemas (only schema) (short_set last)
 lean_ok last short = record {
   front = (1 ∷ []) ∷ definition ∷ [];
   row_messages = (1 ∷ codes "s") ∷ [];
@@ -155,14 +155,14 @@ lean_ok last short = record {
 pub ok_ends : AnOkEndsAResultSet
 unfolding short_text final
 ok_ends = record {
-  allowed = record { columns = 1; is_set = set_ok; lean = λ p. lean_ok ending_ok (omega arith) };
+  allowed = record { columns = 1; is_set = set_ok; lean = λ p. lean_ok ending_ok_packet (omega arith) };
   broken_off = inr (record { columns = 1; first = 1 ∷ []; others = definition ∷ (1 ∷ codes "s") ∷ err ∷ []; messages_are = refl; counts = refl; turns = refl; lean = λ p. lean_ok err (omega arith) });
   eof_at_the_end = λ found spells. false≢true (last_of _ _ _ _ spells.is_set);
   eof_between = λ found spells. between (set-taken _ _ _ _ spells.is_set);
   ok_under_eof = λ found spells. false≢true (last_of _ _ _ _ spells.is_set);
 }
   where
-    between : {columns : ℕ} {found : List (List SentCell)} → IsTaken Ok columns found (set_before ending_ok) → ⊥
+    between : {columns : ℕ} {found : List (List SentCell)} → IsTaken Ok columns found (set_before ending_ok_packet) → ⊥
     between {columns} {found} is_taken = no_garbled found _ (ap (λ (list : List Further). drop 1 list) turns)
       where
         counts : Some (Columns 1) ≡ Some (Columns columns)
@@ -171,7 +171,7 @@ ok_ends = record {
         one_column : columns ≡ 1
         one_column = cc
 
-        turns : turns_of (columns_counted Ok 1) (definition ∷ eof ∷ (1 ∷ codes "s") ∷ ending_ok ∷ []) ≡ replicate 1 turn_definition ++ (map row found ++ end ∷ [])
+        turns : turns_of (columns_counted Ok 1) (definition ∷ eof_packet ∷ (1 ∷ codes "s") ∷ ending_ok_packet ∷ []) ≡ replicate 1 turn_definition ++ (map row found ++ end ∷ [])
         turns = subst (λ (others : List (List ℕ)). turns_of (columns_counted Ok 1) others ≡ replicate 1 turn_definition ++ (map row found ++ end ∷ [])) (sym (ap (λ (messages : List (List ℕ)). drop 1 messages) is_taken.messages_are)) (subst (λ (columns : ℕ). turns_of (columns_counted Ok columns) is_taken.others ≡ replicate columns turn_definition ++ (map row found ++ end ∷ [])) one_column is_taken.turns)
 
 -- a reply of one message that is an OK

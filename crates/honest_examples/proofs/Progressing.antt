@@ -27,7 +27,7 @@ use Rattle.honest_server.specs.State.{with_own}
 use Rattle.honest_server.specs.WellFormed.{HasGoodMark, HasGoodRows, HasItsHead, IsCountedWhere, IsShaped, IsSound, IsWellFormedObject, is_name}
 use Rattle.honest_examples.specs.Effects.{link}
 use Rattle.honest_examples.specs.Worked.{server}
-use Rattle.honest_examples.specs.Progress.{TheProgressIsKept, file, makes_files, makes_schema, puts_file, the_files, the_schema, with_file}
+use Rattle.honest_examples.specs.Progress.{TheProgressIsKept, file, makes_files, makes_schema, puts_file, the_files, the_schema, file_database}
 use Rattle.honest_examples.proofs.Bags.{same_rows}
 use Rattle.honest_examples.proofs.Commanding.{free, may_follow}
 use Rattle.honest_examples.proofs.Inserting.{alone_among}
@@ -95,10 +95,10 @@ sound_files = record {
 sound_file : IsSound server (makes_schema ∷ makes_files ∷ puts_file ∷ [])
 unfolding change_db has_object may_make rows_of
 sound_file = record {
-  database = with_file;
+  database = file_database;
   stands = refl;
-  well_formed = record { objects = All-cons (IsWellFormedObject with_file) the_schema (the_files ∷ []) (good_schema with_file) (all_of_one (IsWellFormedObject with_file) the_files (good_files with_file ((Value file ∷ []) ∷ []) refl (all_of_one (λ row. are_numbers (plain_columns the_files.columns) row ≡ true) (Value file ∷ []) refl))) };
-  printed = printed_in with_file (the_schema ∷ the_files ∷ []) refl;
+  well_formed = record { objects = All-cons (IsWellFormedObject file_database) the_schema (the_files ∷ []) (good_schema file_database) (all_of_one (IsWellFormedObject file_database) the_files (good_files file_database ((Value file ∷ []) ∷ []) refl (all_of_one (λ row. are_numbers (plain_columns the_files.columns) row ≡ true) (Value file ∷ []) refl))) };
+  printed = printed_in file_database (the_schema ∷ the_files ∷ []) refl;
   marks = All-cons HasGoodMark makes_schema (makes_files ∷ puts_file ∷ []) tt (All-cons HasGoodMark makes_files (puts_file ∷ []) tt (all_of_one HasGoodMark puts_file tt));
 }
 
@@ -143,7 +143,7 @@ kept = record {
           keys = tt;
           puts = alone_among (Put progress_schema (codes "files") (Value file ∷ []) ∷ []);
           plain = λ p. refl;
-          new = with_file;
+          new = file_database;
           of_rows = a_row tt refl no_more;
         };
         goes = record { one = puts_file; changes_are = refl; follows = may_follow (makes_schema ∷ makes_files ∷ []) None None (puts_file ∷ []); sound = sound_file; new_is = refl };

@@ -13,7 +13,7 @@ use Rattle.sql_cells.specs.declared.cell.Cell.TheVariants.{Value}
 use Rattle.honest_server.specs.State.{State}
 use Rattle.honest_server.specs.WellFormed.{IsSound, IsWellFormed}
 use Rattle.honest_server.specs.Site.{ServedSite}
-use Rattle.honest_examples.specs.Sites.{AGrantComesFirst, AGreetingIsOfItsServer, ANewLinkHasSeenTheHistory, ANewLinkIsGreeted, ConnectingLeavesTheHistory, GrantsArePrefixesOfOneList, LinksPutDifferentKeys, TheHistoryIsToldOnceAllAreBack, of_both, puts_five, puts_four, puts_three, greeting}
+use Rattle.honest_examples.specs.Sites.{AGrantComesFirst, AGreetingIsOfItsServer, ANewLinkHasSeenTheHistory, ANewLinkIsGreeted, ConnectingLeavesTheHistory, GrantsArePrefixesOfOneList, LinksPutDifferentKeys, TheHistoryIsToldOnceAllAreBack, of_both, puts_five, puts_four, puts_three, greeting_packet}
 use Rattle.honest_examples.specs.Worked.{database, history, one, server, three, two, unmarked}
 use Rattle.honest_examples.proofs.Changes.{keeps_nothing}
 use Rattle.honest_examples.proofs.Soundness.{all_of_one, sound, sound_with_three, with_wrong}
@@ -35,7 +35,7 @@ new_link = record {
 pub greets : ANewLinkIsGreeted
 unfolding packets
 greets = record {
-  allowed = record { alive = refl; greeting = greeting; greets = record { found = _; says = refl; ends = refl; newer = refl; lean = λ p. omega arith }; waits = refl; seen = new_link.allowed; wide = λ p. refl; state_is = refl };
+  allowed = record { alive = refl; greeting = greeting_packet; greets = record { found = _; says = refl; ends = refl; newer = refl; lean = λ p. omega arith }; waits = refl; seen = new_link.allowed; wide = λ p. refl; state_is = refl };
   locked = λ link. absurd (cc (ap (λ (state : State). state.frozen) link.state_is));
   silent = λ link. omega (arith, ap (λ (bytes : List ℕ). length bytes) link.waits, packets_length 0 link.greeting);
   wide_untold = λ link. absurd (false≢true (link.wide refl));

@@ -25,7 +25,7 @@ use Rattle.honest_server.specs.Moves.{MayFollow, plainly}
 use Rattle.honest_server.specs.Serve.{Serves, done}
 use Rattle.honest_server.specs.State.{State, no_settings}
 use Rattle.honest_server.specs.WellFormed.{HasGoodMark, HasItsHead, IsSound, IsWellFormed, IsWellFormedObject, is_name}
-use Rattle.honest_examples.specs.Routines.{ARoutineIsShownWithItsSettings, SettingsAreOfTheNextObject, making, procedure_text, reading, settings, shown, the_procedure, the_view, view_text, with_procedure, with_settings}
+use Rattle.honest_examples.specs.Routines.{ARoutineIsShownWithItsSettings, SettingsAreOfTheNextObject, making_state, procedure_text, reading, settings, shown, the_procedure, the_view, view_text, with_procedure, with_settings}
 use Rattle.honest_examples.specs.Worked.{schema, schema_alone, server, the_schema, unmarked}
 use Rattle.honest_examples.proofs.Commanding.{free}
 use Rattle.honest_examples.proofs.Serving.{IsAlone, serves_done, serves_rows}
@@ -123,9 +123,9 @@ next_object = record {
   mode = serves_done (with_settings no_settings) (SomeCommand (SqlMode (codes "ANSI"))) (with_settings (record no_settings { sql_mode = codes "ANSI" })) (lone no_settings) refl;
   client = serves_done (with_settings (record settings { client = [] })) (SomeCommand (CharacterSetClient (codes "utf8mb4"))) (with_settings settings) (lone (record settings { client = [] })) refl;
   collation = serves_done (with_settings (record settings { collation = [] })) (SomeCommand (CollationConnection (codes "utf8mb4_bin"))) (with_settings settings) (lone (record settings { collation = [] })) refl;
-  of_procedure = serves_done (with_settings settings) (SomeCommand (Create procedure_text)) (making the_procedure) (lone settings)
+  of_procedure = serves_done (with_settings settings) (SomeCommand (Create procedure_text)) (making_state the_procedure) (lone settings)
       (record { middle = with_settings settings; ended = refl; database = alone; stands = stands_alone; object = the_procedure; made = made_procedure; commits = record { one = unmarked (Make the_procedure ∷ []); changes_are = refl; follows = follows settings (unmarked (Make the_procedure ∷ []) ∷ []); sound = sound_procedure; new_is = refl } });
-  of_view = serves_done (with_settings settings) (SomeCommand (Create view_text)) (making the_view) (lone settings)
+  of_view = serves_done (with_settings settings) (SomeCommand (Create view_text)) (making_state the_view) (lone settings)
       (record { middle = with_settings settings; ended = refl; database = alone; stands = stands_alone; object = the_view; made = made_view; commits = record { one = unmarked (Make the_view ∷ []); changes_are = refl; follows = follows settings (unmarked (Make the_view ∷ []) ∷ []); sound = sound_view; new_is = refl } });
   cleared = serves_done (with_settings settings) (SomeCommand (Use schema)) (with_settings no_settings) (lone settings) (record { database = alone; stands = stands_alone; is_there = refl; new_is = refl });
   refused = never;
@@ -134,7 +134,7 @@ next_object = record {
     other : Object
     other = record the_procedure { settings = Some no_settings }
 
-    never : Serves plainly (with_settings settings) (SomeCommand (Create procedure_text)) done (making (record the_procedure { settings = Some no_settings })) → ⊥
+    never : Serves plainly (with_settings settings) (SomeCommand (Create procedure_text)) done (making_state (record the_procedure { settings = Some no_settings })) → ⊥
     never served = absurd (cc (ap mode_of (ap settings_of object ∙ made)))
       where
         object : Make other ∷ [] ≡ Make served.handles.object ∷ []

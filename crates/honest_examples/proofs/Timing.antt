@@ -34,7 +34,7 @@ use Rattle.honest_server.specs.Moves.{plainly}
 use Rattle.honest_server.specs.Serve.{Serves, done}
 use Rattle.honest_server.specs.State.{State, no_settings}
 use Rattle.honest_server.specs.WellFormed.{HasItsHead, IsSound, IsWellFormedObject, is_name}
-use Rattle.honest_examples.specs.Events.{AnEventIsDropped, AnEventIsMadeInATimeZone, AnEventIsShownWithItsTimeZone, EventsAreListed, OnlyAnEventHasATimeZone, TheTextOfUtcIsOfTwoStatements, after_event, event, event_text, in_zone, made_under, making, reading, settings, shown, system, the_event, utc}
+use Rattle.honest_examples.specs.Events.{AnEventIsDropped, AnEventIsMadeInATimeZone, AnEventIsShownWithItsTimeZone, EventsAreListed, OnlyAnEventHasATimeZone, TheTextOfUtcIsOfTwoStatements, after_event, event, event_text, in_zone, made_under, making_state, reading, settings, shown, system, the_event, utc}
 use Rattle.honest_examples.specs.Routines.{procedure_text, the_procedure, with_settings}
 use Rattle.honest_examples.specs.Worked.{schema, server, the_schema, unmarked}
 use Rattle.honest_examples.proofs.Bags.{same_rows}
@@ -85,15 +85,15 @@ pub in_a_zone : AnEventIsMadeInATimeZone
 unfolding has_object
 in_a_zone = record {
   set = serves_done (with_settings settings) (SomeCommand (TimeZone system)) (with_settings (in_zone system)) (lone settings) refl;
-  allowed = serves_done (with_settings (in_zone system)) (SomeCommand (Create event_text)) (making the_event) (lone (in_zone system))
+  allowed = serves_done (with_settings (in_zone system)) (SomeCommand (Create event_text)) (making_state the_event) (lone (in_zone system))
       (record { middle = with_settings (in_zone system); ended = refl; database = alone; stands = stands_alone; object = the_event; made = is_made; commits = record { one = unmarked (Make the_event ∷ []); changes_are = refl; follows = follows (in_zone system) (unmarked (Make the_event ∷ []) ∷ []); sound = sound_event; new_is = refl } });
-  of_procedure = serves_done (with_settings (in_zone system)) (SomeCommand (Create procedure_text)) (making the_procedure) (lone (in_zone system))
+  of_procedure = serves_done (with_settings (in_zone system)) (SomeCommand (Create procedure_text)) (making_state the_procedure) (lone (in_zone system))
       (record { middle = with_settings (in_zone system); ended = refl; database = alone; stands = stands_alone; object = the_procedure; made = made_procedure; commits = record { one = unmarked (Make the_procedure ∷ []); changes_are = refl; follows = follows (in_zone system) (unmarked (Make the_procedure ∷ []) ∷ []); sound = sound_procedure; new_is = refl } });
   cleared = serves_done (with_settings (in_zone system)) (SomeCommand (Use schema)) (with_settings no_settings) (lone (in_zone system)) (record { database = alone; stands = stands_alone; is_there = refl; new_is = refl });
   refused = never;
 }
   where
-    never : Serves plainly (with_settings (in_zone system)) (SomeCommand (Create event_text)) done (making (made_under settings)) → ⊥
+    never : Serves plainly (with_settings (in_zone system)) (SomeCommand (Create event_text)) done (making_state (made_under settings)) → ⊥
     never served = absurd (cc (ap zone_of (ap settings_of object ∙ made)))
       where
         object : Make (made_under settings) ∷ [] ≡ Make served.handles.object ∷ []

@@ -35,7 +35,7 @@ use Rattle.honest_server.specs.Serve.{FitsNowhere, Handles, Serves, done, refuse
 use Rattle.honest_server.specs.State.{State, no_settings, with_others, with_own}
 use Rattle.honest_server.specs.WellFormed.{HasGoodMark, HasItsHead, HasKeys, IsNamed, IsSound, IsWellFormed, IsWellFormedObject, NeedsItsTable, is_name}
 use Rattle.honest_examples.specs.Effects.{insert, link}
-use Rattle.honest_examples.specs.Triggers.{ATriggerIsMadeOnItsTable, ATriggerIsTold, ATriggerMayPutMore, the_trigger, trigger, trigger_text, two_rows, with_trigger}
+use Rattle.honest_examples.specs.Triggers.{ATriggerIsMadeOnItsTable, ATriggerIsTold, ATriggerMayPutMore, the_trigger, trigger, trigger_text, two_inserts, with_trigger}
 use Rattle.honest_examples.specs.Worked.{a, no_rows, one, put, row_of_table, schema, schema_alone, server, table, the_schema, the_table, three, unmarked, with_rows}
 use Rattle.honest_examples.proofs.Bags.{same_rows}
 use Rattle.honest_examples.proofs.Commanding.{free, may_follow}
@@ -156,7 +156,7 @@ sound_two : IsSound server (with_trigger ++ unmarked (put three ∷ put one ∷ 
 unfolding change_db has_object may_make
 sound_two = record { database = with_all (three ∷ one ∷ []); stands = refl; well_formed = well_formed (three ∷ one ∷ []) refl (keys_of (a ∷ []) (three ∷ one ∷ []) (3 ∷ 1 ∷ []) refl refl); printed = printed_in _ (the_schema ∷ the_table ∷ the_trigger ∷ []) refl; marks = unmarked_ones ((Make the_schema ∷ []) ∷ (Make the_table ∷ []) ∷ (Make the_trigger ∷ []) ∷ (put three ∷ put one ∷ []) ∷ []) }
 
-puts_two : Handles (with_others (link with_trigger (Some schema)) []) (insert (codes "(3,'c')")) done (two_rows (link with_trigger (Some schema)))
+puts_two : Handles (with_others (link with_trigger (Some schema)) []) (insert (codes "(3,'c')")) done (two_inserts (link with_trigger (Some schema)))
 unfolding change_db has_object may_make rows_of
 puts_two = record {
   schema = schema;
@@ -212,7 +212,7 @@ puts_more = record {
   refused = never;
 }
   where
-    never : Serves plainly (link no_rows (Some schema)) (insert (codes "(3,'c')")) done (two_rows (link no_rows (Some schema))) → ⊥
+    never : Serves plainly (link no_rows (Some schema)) (insert (codes "(3,'c')")) done (two_inserts (link no_rows (Some schema))) → ⊥
     never served = omega (arith, single, both)
       where
         none : served.more ≡ []

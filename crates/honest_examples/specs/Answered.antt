@@ -17,8 +17,8 @@ abbrev pub columns : List (List ℕ)
 columns = key ∷ codes "a" ∷ []
 
 -- a name that no table and no schema has
-abbrev pub no_table : List ℕ
-no_table = codes "u"
+abbrev pub no_table_err : List ℕ
+no_table_err = codes "u"
 
 -- rows that are asked for by key come in its order
 pub record RowsComeInTheOrderOfTheKey : Type 0 where
@@ -73,7 +73,7 @@ pub record ColumnsAreToldWithTheirTypes : Type 0 where
   pub allowed : Answers database (Columns schema table)
       (column_row key (codes "int") (codes "int")
       ∷ column_row (codes "a") (codes "varchar") (codes "varchar(9)") ∷ [])
-  pub none : Answers database (Columns schema no_table) []
+  pub none : Answers database (Columns schema no_table_err) []
   pub refused : Answers database (Columns schema table)
       (column_row key (codes "int") (codes "int unsigned")
       ∷ column_row (codes "a") (codes "varchar") (codes "varchar(9)") ∷ []) → ⊥
@@ -110,7 +110,7 @@ pub record ATextIsShown : Type 0 where
   pub allowed : Answers database (CreateTable schema table)
       ((Value table ∷ Value table_text ∷ []) ∷ [])
   pub withheld : Answers database (CreateTable schema table) ((Value table ∷ Null ∷ []) ∷ []) → ⊥
-  pub refused : (rows : List (List Cell)) → Answers database (CreateTable schema no_table) rows → ⊥
+  pub refused : (rows : List (List Cell)) → Answers database (CreateTable schema no_table_err) rows → ⊥
 
 -- what SHOW MASTER STATUS shows of a position without a GTID set
 abbrev pub status : List ℕ → List (List Cell)

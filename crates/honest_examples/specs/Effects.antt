@@ -13,7 +13,7 @@ use Rattle.honest_server.specs.Laws.{IsNoErr}
 use Rattle.honest_server.specs.Moves.{plainly}
 use Rattle.honest_server.specs.Serve.{Reply, done, rows, refused, Serves}
 use Rattle.honest_server.specs.State.{State, in_session, no_settings, with_error, with_own}
-use Rattle.honest_examples.specs.Answered.{columns, no_table}
+use Rattle.honest_examples.specs.Answered.{columns, no_table_err}
 use Rattle.honest_examples.specs.Worked.{history, no_rows, one, put, schema, schema_alone, server, table, table_text, the_table, three, two, unmarked}
 
 -- The only link to a quiet site of a willing server, so that all that happens there is its own doing. It is in a session, has seen this
@@ -81,19 +81,19 @@ pub record ACommitWaitsForTheReadLock : Type 0 where
   pub refused : IsRefused (frozen opened) (SomeCommand Commit)
 
 -- a transaction is open, and has no changes yet
-abbrev pub begun : State
-begun = record worked { pending = Some [] }
+abbrev pub open_state : State
+open_state = record worked { pending = Some [] }
 
 -- A transaction without changes ends under the read lock too, and then commits nothing. Without the lock it may be committed as one
 -- without changes.
 pub record AnEmptyTransactionEndsUnderTheReadLock : Type 0 where
-  pub allowed : IsServed (frozen begun) (SomeCommand Commit) done (frozen worked)
-  pub nothing_else : (new : State) → Serves plainly (frozen begun) (SomeCommand Commit) done new →
+  pub allowed : IsServed (frozen open_state) (SomeCommand Commit) done (frozen worked)
+  pub nothing_else : (new : State) → Serves plainly (frozen open_state) (SomeCommand Commit) done new →
       new ≡ frozen worked
-  pub started : IsServed (frozen begun) (SomeCommand Start) done (frozen begun)
-  pub marked : Serves plainly begun (SomeCommand Commit) done (with_own begun (unmarked []))
-  pub refused : Serves plainly (frozen begun) (SomeCommand Commit) done
-      (with_own (frozen begun) (unmarked [])) → ⊥
+  pub started : IsServed (frozen open_state) (SomeCommand Start) done (frozen open_state)
+  pub marked : Serves plainly open_state (SomeCommand Commit) done (with_own open_state (unmarked []))
+  pub refused : Serves plainly (frozen open_state) (SomeCommand Commit) done
+      (with_own (frozen open_state) (unmarked [])) → ⊥
 
 -- a table is made in the current schema, where there is one, and the table isn't there yet
 pub record ATableIsMadeInTheCurrentSchema : Type 0 where
@@ -116,7 +116,7 @@ pub record TheBackupLockStopsACreate : Type 0 where
 -- a schema is used where it is there
 pub record ASchemaIsUsedWhereItIsThere : Type 0 where
   pub allowed : IsServed (link history None) (SomeCommand (Use schema)) done worked
-  pub refused : IsRefused (link history None) (SomeCommand (Use no_table))
+  pub refused : IsRefused (link history None) (SomeCommand (Use no_table_err))
 
 -- the link's snapshot was taken before there were rows
 abbrev pub viewing : State

@@ -19,7 +19,7 @@ use Rattle.honest_server.specs.Moves.{plainly}
 use Rattle.honest_server.specs.Serve.{Serves, done, rows}
 use Rattle.honest_server.specs.State.{State, no_settings, with_own}
 use Rattle.honest_server.specs.WellFormed.{IsWellFormed}
-use Rattle.honest_examples.specs.Answered.{no_table}
+use Rattle.honest_examples.specs.Answered.{no_table_err}
 use Rattle.honest_examples.specs.Effects.{IsServed, link}
 use Rattle.honest_examples.specs.Routines.{procedure_text, the_procedure, with_settings}
 use Rattle.honest_examples.specs.Worked.{schema, schema_alone, server, the_schema, unmarked}
@@ -69,21 +69,21 @@ abbrev pub the_event : Object
 the_event = made_under (in_zone system)
 
 -- the object is made on a link with the same settings
-abbrev pub making : Object → State
-making object = with_own (with_settings (in_zone system)) (unmarked (Make object ∷ []))
+abbrev pub making_state : Object → State
+making_state object = with_own (with_settings (in_zone system)) (unmarked (Make object ∷ []))
 
 -- An event is made under the time zone that was set last, and no other object has one. USE clears it.
 pub record AnEventIsMadeInATimeZone : Type 0 where
   pub set : IsServed (with_settings settings) (SomeCommand (TimeZone system)) done
       (with_settings (in_zone system))
   pub allowed : IsServed (with_settings (in_zone system)) (SomeCommand (Create event_text)) done
-      (making the_event)
+      (making_state the_event)
   pub of_procedure : IsServed (with_settings (in_zone system))
-      (SomeCommand (Create procedure_text)) done (making the_procedure)
+      (SomeCommand (Create procedure_text)) done (making_state the_procedure)
   pub cleared : IsServed (with_settings (in_zone system)) (SomeCommand (Use schema)) done
       (with_settings no_settings)
   pub refused : Serves plainly (with_settings (in_zone system))
-      (SomeCommand (Create event_text)) done (making (made_under settings)) → ⊥
+      (SomeCommand (Create event_text)) done (making_state (made_under settings)) → ⊥
 
 -- the text that sets the time zone of UTC
 abbrev pub utc : List ℕ
@@ -105,7 +105,7 @@ with_event = record { objects = the_schema ∷ the_procedure ∷ the_event ∷ [
 -- the events of a schema are told by name, and nothing else is
 pub record EventsAreListed : Type 0 where
   pub allowed : Answers with_event (Events schema) ((Value event ∷ []) ∷ [])
-  pub elsewhere : Answers with_event (Events no_table) []
+  pub elsewhere : Answers with_event (Events no_table_err) []
   pub refused : Answers with_event (Events schema) [] → ⊥
 
 -- a history in which the schema is made, and then the event

@@ -40,12 +40,12 @@ definition = 3 ∷ codes "def"
     ++ (0 ∷ 12 ∷ 45 ∷ 0 ∷ 0 ∷ 1 ∷ 0 ∷ 0 ∷ 253 ∷ 1 ∷ 0 ∷ 0 ∷ 0 ∷ 0 ∷ []))
 
 -- an EOF packet without warnings
-abbrev pub eof : List ℕ
-eof = 254 ∷ 0 ∷ 0 ∷ 2 ∷ 0 ∷ []
+abbrev pub eof_packet : List ℕ
+eof_packet = 254 ∷ 0 ∷ 0 ∷ 2 ∷ 0 ∷ []
 
 -- a result set of one column and one row: the number of columns, its definition, an EOF, the row (s), and what ends it
 abbrev pub set_before : List ℕ → List (List ℕ)
-set_before last = (1 ∷ []) ∷ definition ∷ eof ∷ (1 ∷ codes "s") ∷ last ∷ []
+set_before last = (1 ∷ []) ∷ definition ∷ eof_packet ∷ (1 ∷ codes "s") ∷ last ∷ []
 
 -- one row of one cell
 abbrev pub only : List ℕ → List (List Cell)
@@ -62,10 +62,10 @@ pub record ACommandIsAnsweredByOneMessage : Type 0 where
 
 -- a query is answered by the messages of its rows, after which an ERR may stand in place of the end
 pub record AQueryIsAnsweredByItsRows : Type 0 where
-  pub allowed : Spells server (SomeQuery Schemas) (rows (only schema)) (set_before eof)
+  pub allowed : Spells server (SomeQuery Schemas) (rows (only schema)) (set_before eof_packet)
   pub broken_off : Spells server (SomeQuery Schemas) (refused (only schema) refusal)
       (set_before err)
-  pub other_rows : Spells server (SomeQuery Schemas) (rows (only (codes "ss"))) (set_before eof) → ⊥
+  pub other_rows : Spells server (SomeQuery Schemas) (rows (only (codes "ss"))) (set_before eof_packet) → ⊥
   pub refused : (found : List (List Cell)) →
       Spells server (SomeQuery Schemas) (rows found) (ok ∷ []) → ⊥
 
@@ -74,27 +74,27 @@ abbrev pub ending_by_ok : Server
 ending_by_ok = record server { ends = Ok }
 
 -- an OK with the header fe, without a text
-abbrev pub ending_ok : List ℕ
-ending_ok = 254 ∷ 0 ∷ 0 ∷ 2 ∷ 0 ∷ 0 ∷ 0 ∷ []
+abbrev pub ending_ok_packet : List ℕ
+ending_ok_packet = 254 ∷ 0 ∷ 0 ∷ 2 ∷ 0 ∷ 0 ∷ 0 ∷ []
 
 -- such an OK with a text after it; without one it has eight bytes, and is an EOF too
 abbrev pub long_ok : List ℕ
-long_ok = ending_ok ++ codes "ok"
+long_ok = ending_ok_packet ++ codes "ok"
 
 -- the same result set without an EOF after the definition
-abbrev pub set_without_eof : List ℕ → List (List ℕ)
-set_without_eof last = (1 ∷ []) ∷ definition ∷ (1 ∷ codes "s") ∷ last ∷ []
+abbrev pub short_set : List ℕ → List (List ℕ)
+short_set last = (1 ∷ []) ∷ definition ∷ (1 ∷ codes "s") ∷ last ∷ []
 
 -- there no EOF stands in a result set, and where EOF packets end them, no such OK does
 pub record AnOkEndsAResultSet : Type 0 where
   pub allowed : Spells ending_by_ok (SomeQuery Schemas) (rows (only schema))
-      (set_without_eof ending_ok)
+      (short_set ending_ok_packet)
   pub broken_off : Spells ending_by_ok (SomeQuery Schemas) (refused (only schema) refusal)
-      (set_without_eof err)
+      (short_set err)
   pub eof_at_the_end : (found : List (List Cell)) →
-      Spells ending_by_ok (SomeQuery Schemas) (rows found) (set_without_eof eof) → ⊥
+      Spells ending_by_ok (SomeQuery Schemas) (rows found) (short_set eof_packet) → ⊥
   pub eof_between : (found : List (List Cell)) →
-      Spells ending_by_ok (SomeQuery Schemas) (rows found) (set_before ending_ok) → ⊥
+      Spells ending_by_ok (SomeQuery Schemas) (rows found) (set_before ending_ok_packet) → ⊥
   pub ok_under_eof : (found : List (List Cell)) →
       Spells server (SomeQuery Schemas) (rows found) (set_before long_ok) → ⊥
 

@@ -19,8 +19,8 @@ native phase =
     }
 
 -- the client's response, as a packet of this id
-abbrev pub response : ℕ → List ℕ
-response id = 1 ∷ 0 ∷ 0 ∷ id ∷ 0 ∷ []
+abbrev pub response_packet : ℕ → List ℕ
+response_packet id = 1 ∷ 0 ∷ 0 ∷ id ∷ 0 ∷ []
 
 -- a request for that plugin, with a scramble of twenty bytes and a 00
 abbrev pub request : List ℕ
@@ -40,12 +40,12 @@ err_of id = 11 ∷ 0 ∷ 0 ∷ id ∷ err
 
 -- the plugin of the accounts may be asked for, once, and no other; the response to it may be taken
 pub record AnotherPluginIsAskedForOnce : Type 0 where
-  pub allowed : Exchanges plainly (native greeted) (response 1) (request_packet 2)
+  pub allowed : Exchanges plainly (native greeted) (response_packet 1) (request_packet 2)
       (native switching)
-  pub taken : Exchanges plainly (native switching) (response 3) (ok_of 4) (native in_session)
+  pub taken : Exchanges plainly (native switching) (response_packet 3) (ok_of 4) (native in_session)
   pub again : (new : State) →
-      Exchanges plainly (native switching) (response 3) (request_packet 4) new → ⊥
-  pub refused : (new : State) → Exchanges plainly logging_in (response 1) (request_packet 2) new → ⊥
+      Exchanges plainly (native switching) (response_packet 3) (request_packet 4) new → ⊥
+  pub refused : (new : State) → Exchanges plainly logging_in (response_packet 1) (request_packet 2) new → ⊥
 
 -- the same link, before its login, to a server that answers ERR as it likes
 abbrev pub unwilling_login : State
@@ -57,8 +57,8 @@ unwilling_login =
 
 -- a login may be turned away, and the link is then over; a willing server turns none away
 pub record ALoginIsTurnedAway : Type 0 where
-  pub allowed : Exchanges plainly unwilling_login (response 1) (err_of 2)
+  pub allowed : Exchanges plainly unwilling_login (response_packet 1) (err_of 2)
       (record (with_error unwilling_login (Some Connect) refusal) { phase = over })
-  pub closes : (new : State) → Exchanges plainly unwilling_login (response 1) (err_of 2) new →
+  pub closes : (new : State) → Exchanges plainly unwilling_login (response_packet 1) (err_of 2) new →
       new.phase ≡ over
-  pub refused : (new : State) → Exchanges plainly logging_in (response 1) (err_of 2) new → ⊥
+  pub refused : (new : State) → Exchanges plainly logging_in (response_packet 1) (err_of 2) new → ⊥

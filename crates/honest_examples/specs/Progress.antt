@@ -67,8 +67,8 @@ abbrev pub puts_file : Transaction
 puts_file = unmarked (Put progress_schema (codes "files") (Value file ∷ []) ∷ [])
 
 -- the schema and the table, with the file
-abbrev pub with_file : Database
-with_file = record {
+abbrev pub file_database : Database
+file_database = record {
   objects = the_schema ∷ the_files ∷ [];
   rows = record {
     table = record { schema = progress_schema; name = codes "files" };
@@ -85,5 +85,5 @@ pub record TheProgressIsKept : Type 0 where
   pub put : IsServed (link (makes_schema ∷ makes_files ∷ []) None)
       (SomeCommand (InsertProgressFile file)) done
       (with_own (link (makes_schema ∷ makes_files ∷ []) None) puts_file)
-  pub told : Answers with_file ProgressFiles ((Value file ∷ []) ∷ [])
+  pub told : Answers file_database ProgressFiles ((Value file ∷ []) ∷ [])
   pub refused : IsRefused (link (makes_schema ∷ []) None) (SomeCommand (InsertProgressFile file))

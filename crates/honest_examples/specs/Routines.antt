@@ -70,8 +70,8 @@ abbrev pub with_settings : Settings → State
 with_settings made = record (link schema_alone (Some schema)) { settings = made }
 
 -- the object is made there
-abbrev pub making : Object → State
-making object = with_own (with_settings settings) (unmarked (Make object ∷ []))
+abbrev pub making_state : Object → State
+making_state object = with_own (with_settings settings) (unmarked (Make object ∷ []))
 
 -- Settings are those of the objects that are made next. USE clears them.
 pub record SettingsAreOfTheNextObject : Type 0 where
@@ -82,13 +82,13 @@ pub record SettingsAreOfTheNextObject : Type 0 where
   pub collation : IsServed (with_settings (record settings { collation = [] }))
       (SomeCommand (CollationConnection (codes "utf8mb4_bin"))) done (with_settings settings)
   pub of_procedure : IsServed (with_settings settings) (SomeCommand (Create procedure_text)) done
-      (making the_procedure)
+      (making_state the_procedure)
   pub of_view : IsServed (with_settings settings) (SomeCommand (Create view_text)) done
-      (making the_view)
+      (making_state the_view)
   pub cleared : IsServed (with_settings settings) (SomeCommand (Use schema)) done
       (with_settings no_settings)
   pub refused : Serves plainly (with_settings settings) (SomeCommand (Create procedure_text)) done
-      (making (record the_procedure { settings = Some no_settings })) → ⊥
+      (making_state (record the_procedure { settings = Some no_settings })) → ⊥
 
 -- a history in which the schema is made, and then the procedure
 abbrev pub with_procedure : List Transaction

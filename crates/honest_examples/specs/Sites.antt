@@ -39,8 +39,8 @@ pub record ANewLinkHasSeenTheHistory : Type 0 where
   pub refused : HasSeen (site true) true (history ++ puts_three ∷ []) → ⊥
 
 -- a server's first message: of version 8.0.35, with a scramble of twenty bytes and the plugin mysql_native_password
-abbrev pub greeting : List ℕ
-greeting = 10 ∷ codes "8.0.35"
+abbrev pub greeting_packet : List ℕ
+greeting_packet = 10 ∷ codes "8.0.35"
     ++ (0 ∷ 8 ∷ 0 ∷ 0 ∷ 0 ∷ codes "abcdefgh"
     ++ (0 ∷ 255 ∷ 255 ∷ 255 ∷ 2 ∷ 0 ∷ 255 ∷ 222 ∷ 21 ∷ replicate 10 0
     ++ (codes "ijklmnopqrst" ++ (0 ∷ codes "mysql_native_password" ++ 0 ∷ []))))
@@ -54,15 +54,15 @@ offering_ok =
 
 -- a greeting says how the server's result sets end, and whether it is newer
 pub record AGreetingIsOfItsServer : Type 0 where
-  pub allowed : IsGreeting server greeting
+  pub allowed : IsGreeting server greeting_packet
   pub by_ok : IsGreeting (record server { ends = Ok }) offering_ok
   pub other_ending : IsGreeting server offering_ok → ⊥
-  pub other_version : IsGreeting (record server { newer = true }) greeting → ⊥
+  pub other_version : IsGreeting (record server { newer = true }) greeting_packet → ⊥
 
 -- a link on which it waits
 abbrev pub greeted_link : State → ServedLink
 greeted_link state =
-    record { waiting = 74 ∷ 0 ∷ 0 ∷ 0 ∷ greeting; state = state; failed = false; keeps_wide = true }
+    record { waiting = 74 ∷ 0 ∷ 0 ∷ 0 ∷ greeting_packet; state = state; failed = false; keeps_wide = true }
 
 -- a new link is greeted, and holds no lock
 pub record ANewLinkIsGreeted : Type 0 where

@@ -61,12 +61,12 @@ pub record ATriggerIsTold : Type 0 where
   pub refused : Answers triggered (Triggers schema) [] → ⊥
 
 -- the row (3,'c') is put and then the row (1,'a')
-abbrev pub two_rows : State → State
-two_rows state = with_own state (unmarked (put three ∷ put one ∷ []))
+abbrev pub two_inserts : State → State
+two_inserts state = with_own state (unmarked (put three ∷ put one ∷ []))
 
 -- where the table has a trigger, an INSERT of one row may put another one too, and not where it has none
 pub record ATriggerMayPutMore : Type 0 where
   pub allowed : Serves plainly (link with_trigger (Some schema)) (insert (codes "(3,'c')")) done
-      (two_rows (link with_trigger (Some schema)))
+      (two_inserts (link with_trigger (Some schema)))
   pub refused : Serves plainly (link no_rows (Some schema)) (insert (codes "(3,'c')")) done
-      (two_rows (link no_rows (Some schema))) → ⊥
+      (two_inserts (link no_rows (Some schema))) → ⊥

@@ -6,7 +6,7 @@ use Rattle.sql_cells.specs.declared.cell.Cell.{Cell}
 use Rattle.sql_cells.specs.declared.cell.Cell.TheVariants.{Null, Value}
 use Rattle.statement_forms.specs.declared.query.Query.TheVariants.{CreateView, ViewNeeds}
 use Rattle.honest_server.specs.Answer.{Answers}
-use Rattle.honest_examples.specs.Answered.{no_table}
+use Rattle.honest_examples.specs.Answered.{no_table_err}
 use Rattle.honest_examples.specs.Routines.{the_view}
 use Rattle.honest_examples.specs.Worked.{schema, table, the_schema, the_table}
 
@@ -40,5 +40,5 @@ pub record AViewIsShownWithItsSettings : Type 0 where
 pub record WhatAViewNeedsIsTold : Type 0 where
   pub allowed : Answers viewed (ViewNeeds schema)
       ((Value view ∷ Value schema ∷ Value table ∷ []) ∷ [])
-  pub elsewhere : Answers viewed (ViewNeeds no_table) []
+  pub elsewhere : Answers viewed (ViewNeeds no_table_err) []
   pub refused : Answers viewed (ViewNeeds schema) [] → ⊥

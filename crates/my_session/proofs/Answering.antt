@@ -9,7 +9,7 @@ use Rattle.wire_forms.specs.Reply.{reply_of}
 use Rattle.wire_forms.specs.declared.reply.Reply.{Reply}
 use Rattle.statement_forms.specs.declared.form.Form.{Form}
 use Rattle.my_session.specs.Awaited.{Awaited, done, count, done_fault, count_fault}
-use Rattle.my_session.specs.Channel.{Skimmed, IsOfChannel}
+use Rattle.my_session.specs.Channel.{HearsFront, IsOfChannel}
 use Rattle.my_session.specs.Halt.{Halts, Misheard}
 use Rattle.my_session.specs.Heard.{HearsReply}
 use Rattle.my_session.specs.Serving.{DeliversFront, DeliversReply}
@@ -19,7 +19,7 @@ use Rattle.my_session.specs.declared.fault.SessionFault.{SessionFault}
 use Rattle.my_session.specs.declared.fault.SessionFault.TheVariants.{Link, Refused, Garbled, NotProtocol10, PluginUnsupported, TooLong, StreamTooLong, OutOfMemory}
 
 -- the front that a skim kept tells the reply
-pub skim_tells : (skim : SkimmedView) (kept : List ℕ) (reply : Option Reply) (old new : Wire) → ((seq limit : ℕ) (fed message : List ℕ) → Skims seq limit fed skim → fed ≡ packets seq message → kept ≡ take 1024 message) → reply ≡ reply_of kept → Skimmed skim old new → HearsReply reply old new
+pub skim_tells : (skim : SkimmedView) (kept : List ℕ) (reply : Option Reply) (old new : Wire) → ((seq limit : ℕ) (fed message : List ℕ) → Skims seq limit fed skim → fed ≡ packets seq message → kept ≡ take 1024 message) → reply ≡ reply_of kept → HearsFront skim old new → HearsReply reply old new
 skim_tells skim kept reply old new keeps is heard = record {
   message = heard.message;
   heard = heard.heard;

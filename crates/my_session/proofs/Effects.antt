@@ -18,37 +18,37 @@ use Rattle.statement_forms.specs.declared.form.Form.{Form}
 use Rattle.statement_forms.specs.declared.statement.Statement.{Statement}
 use Rattle.statement_forms.specs.declared.statement.Statement.TheVariants.{Command as SomeCommand, Query as SomeQuery}
 
-pub record Keeps (old new : State) : Type 0 where
+pub record KeepsLink (old new : State) : Type 0 where
   pub phase : new.phase ≡ old.phase
   pub terms : new.terms ≡ old.terms
 
-keeps_by : (old now new : State) → now.phase ≡ old.phase → now.terms ≡ old.terms → new ≡ now → Keeps old new
+keeps_by : (old now new : State) → now.phase ≡ old.phase → now.terms ≡ old.terms → new ≡ now → KeepsLink old new
 keeps_by old now new phase terms is = record { phase = ap (λ (s : State). s.phase) is ∙ phase; terms = ap (λ (s : State). s.terms) is ∙ terms }
 
-keeps_on : (old middle new : State) → Keeps old middle → Keeps middle new → Keeps old new
+keeps_on : (old middle new : State) → KeepsLink old middle → KeepsLink middle new → KeepsLink old new
 keeps_on old middle new first later = record { phase = later.phase ∙ first.phase; terms = later.terms ∙ first.terms }
 
-commits_keeps : (state : State) (changes : List Change) (new : State) → Commits state changes new → Keeps state new
+commits_keeps : (state : State) (changes : List Change) (new : State) → Commits state changes new → KeepsLink state new
 commits_keeps state changes new commits = keeps_by state (with_own state commits.one) new refl refl commits.new_is
 
-ends_keeps : (state : State) (pending : Option (List Change)) (new : State) → EndsOpen state pending new → Keeps state new
+ends_keeps : (state : State) (pending : Option (List Change)) (new : State) → EndsOpen state pending new → KeepsLink state new
 ends_keeps state None new is = keeps_by state state new refl refl is
 ends_keeps state (Some []) new (inl is) = keeps_by state _ new refl refl is
 ends_keeps state (Some []) new (inr commits) = commits_keeps state [] new commits
 ends_keeps state (Some (change ∷ changes)) new commits = commits_keeps state (change ∷ changes) new commits
 
-creates_keeps : (state : State) (text : List ℕ) (new : State) → Creates state text new → Keeps state new
+creates_keeps : (state : State) (text : List ℕ) (new : State) → Creates state text new → KeepsLink state new
 creates_keeps state text new creates =
     keeps_on state creates.middle new (ends_keeps state state.pending creates.middle creates.ended) (commits_keeps creates.middle (Make creates.object ∷ []) new creates.commits)
 
-goes_keeps : (state : State) (pending : Option (List Change)) (changes : List Change) (new : State) → GoesInto state pending changes new → Keeps state new
+goes_keeps : (state : State) (pending : Option (List Change)) (changes : List Change) (new : State) → GoesInto state pending changes new → KeepsLink state new
 goes_keeps state None changes new commits = commits_keeps state changes new commits
 goes_keeps state (Some before) changes new is = keeps_by state _ new refl refl is
 
-inserts_keeps : (state : State) (table : Need) (says : Insertion) (new : State) → InsertsInto state table says new → Keeps state new
+inserts_keeps : (state : State) (table : Need) (says : Insertion) (new : State) → InsertsInto state table says new → KeepsLink state new
 inserts_keeps state table says new inserts = goes_keeps state state.pending inserts.changes new inserts.goes
 
-effect_keeps : (state : State) (command : Command) (new : State) → Effect state command new → Keeps state new
+effect_keeps : (state : State) (command : Command) (new : State) → Effect state command new → KeepsLink state new
 effect_keeps state SetUp new is = keeps_by state _ new refl refl is
 effect_keeps state NamesUtf8mb4 new is = keeps_by state state new refl refl is
 effect_keeps state NamesBinary new is = keeps_by state state new refl refl is
@@ -77,11 +77,11 @@ effect_keeps state (Insert text) new inserts = inserts_keeps state _ inserts.say
 effect_keeps state (InsertProgressFile name) new inserts = inserts_keeps state _ _ new inserts
 effect_keeps state (InsertProgressDump digest) new inserts = inserts_keeps state _ _ new inserts
 
-pub unknown_keeps : (state : State) (more : List Transaction) (form : Option Form) (refusal : Refusal) (new : State) → GivesErr state more form refusal new → Keeps state new
+pub unknown_keeps : (state : State) (more : List Transaction) (form : Option Form) (refusal : Refusal) (new : State) → GivesErr state more form refusal new → KeepsLink state new
 unknown_keeps state more form refusal new gives = keeps_by state _ new refl refl gives.new_is
 
 -- a statement that is served leaves the phase and the terms as they are
-pub serves_keeps : (way : Way) (state : State) (statement : Statement) (reply : Reply) (new : State) → Serves way state statement reply new → Keeps state new
+pub serves_keeps : (way : Way) (state : State) (statement : Statement) (reply : Reply) (new : State) → Serves way state statement reply new → KeepsLink state new
 serves_keeps way state (SomeCommand command) done new handled = keeps_on state (with_others state handled.more) new (keeps_by state _ (with_others state handled.more) refl refl refl) (effect_keeps (with_others state handled.more) command new handled.handles)
 serves_keeps way state (SomeCommand command) (rows found) new handled = absurd handled.handles
 serves_keeps way state (SomeCommand command) (refused found refusal) new refuses = unknown_keeps state refuses.more _ refusal new refuses.gives

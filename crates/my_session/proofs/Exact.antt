@@ -6,7 +6,7 @@ use Rattle.std.proofs.lemmas.List.{append-nil, length-take-le, nil_from_length}
 use Rattle.my_packets.proofs.Fronts.{one_front}
 use Rattle.my_packets.specs.Front.{HasMessage, IsPart}
 use Rattle.wire_forms.specs.Packet.{packets, full_packets, id_after, missing}
-use Rattle.my_session.specs.Receiving.{IsExact}
+use Rattle.my_session.specs.Receiving.{HoldsAtMostOne}
 
 -- bytes that are fewer than those that are missing leave the others missing
 missing_less : (room id : ℕ) (bytes piece : List ℕ) → length piece < missing room id bytes → missing room id (bytes ++ piece) ≡ missing room id bytes - length piece
@@ -63,7 +63,7 @@ exact_by limit id more bytes (y ∷ piece) message (b ∷ after) part fits whole
     (record { short = whole.short; bytes_are = shorter bytes piece (packets id message) y b after whole.bytes_are })
     (still_part limit id more bytes front part (omega arith)))
 
-pub exact_at_first : (limit id : ℕ) (bytes : List ℕ) → bytes ≡ [] → IsExact limit id bytes
+pub exact_at_first : (limit id : ℕ) (bytes : List ℕ) → bytes ≡ [] → HoldsAtMostOne limit id bytes
 exact_at_first limit id bytes none = record {
   ends = λ message after whole.
       let all = length-append (packets id message) after in
@@ -72,5 +72,5 @@ exact_at_first limit id bytes none = record {
       nil_from_length after (omega arith);
 }
 
-pub exact_after : (limit id more : ℕ) (bytes piece : List ℕ) → IsPart limit id more bytes → length piece ≤ more → IsExact limit id (bytes ++ piece)
+pub exact_after : (limit id more : ℕ) (bytes piece : List ℕ) → IsPart limit id more bytes → length piece ≤ more → HoldsAtMostOne limit id (bytes ++ piece)
 exact_after limit id more bytes piece part fits = record { ends = λ message after whole. exact_by limit id more bytes piece message after part fits whole }

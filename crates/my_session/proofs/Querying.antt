@@ -25,7 +25,7 @@ use Rattle.my_session.specs.Awaited.{Awaited, count, further}
 use Rattle.my_session.specs.Halt.{Halts, Unsaid, Stops, at_message, at_payload}
 use Rattle.my_session.specs.Heard.{HearsReply, HearsDefinition, IsRowOf}
 use Rattle.my_session.specs.Lead.{lead_of}
-use Rattle.my_session.specs.Session.{Runs, rows_of}
+use Rattle.my_session.specs.Session.{Runs, rows_awaited}
 use Rattle.my_session.specs.Statements.{IsRun, RunAwaits, RunSends, IsLedBy, LeadAwaitsBy, LeadSendsBy, IsLed, LeadAwaits, LeadSends, IsAsked, IsDescribed, QueryAwaits, a_lead, a_count, a_definition, QuerySends, the_lead, the_query, query_payload}
 use Rattle.my_session.specs.Wire.{Wire, Step, commands, hears, ends, Takes, Sent}
 use Rattle.my_session.specs.declared.fault.SessionFault.{SessionFault}
@@ -201,8 +201,8 @@ judged_definition reading message place turn none is told =
     rows_no_definition reading message none (subst (λ (t : Turn). IsTurn place (Ok t) (further_of reading message)) is told)
 
 -- all messages before the rows were read
-pub at_rows : (reading : Reading) (ending : Ends) (columns : ℕ) → reading.ends ≡ ending → reading.columns ≡ columns → reading.awaited ≡ 0 → reading ≡ rows_of ending columns
+pub at_rows : (reading : Reading) (ending : Ends) (columns : ℕ) → reading.ends ≡ ending → reading.columns ≡ columns → reading.awaited ≡ 0 → reading ≡ rows_awaited ending columns
 at_rows reading ending columns so is none =
     ap (λ (n : ℕ). record reading { columns = n }) is
     ∙ ap (λ (n : ℕ). record reading { columns = columns; awaited = n }) none
-    ∙ ap (λ (e : Ends). rows_of e columns) so
+    ∙ ap (λ (e : Ends). rows_awaited e columns) so

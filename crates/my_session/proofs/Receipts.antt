@@ -20,8 +20,8 @@ use Rattle.my_session.proofs.Staying.{stays_begin, stays_on, keeps_ok, keeps_err
 use Rattle.my_session.proofs.Within.{wrong_within, full_within}
 use Rattle.my_session.specs.Channel.{link_at, wire_at, HearsNext, HearsNone, IsOfChannel}
 use Rattle.my_session.specs.Halt.{Misheard}
-use Rattle.my_session.specs.Receiving.{Fetches, Gathers, IsExact, IsReader, Unfetched, Unsettled, reader_at}
-use Rattle.my_session.specs.Serving.{IsServing, MessageWaits, Keeps, Stays, Gives, Delivers}
+use Rattle.my_session.specs.Receiving.{Fetches, HoldsTaken, HoldsAtMostOne, IsReader, Unfetched, Unsettled, reader_at}
+use Rattle.my_session.specs.Serving.{IsServing, MessageWaits, KeepsLink, Stays, Gives, Delivers}
 use Rattle.my_session.specs.Wire.{Hears, IsOnward, within}
 use Rattle.my_session.specs.declared.fault.SessionFault.{SessionFault}
 use Rattle.my_session.specs.declared.fault.SessionFault.TheVariants.{Link, Refused, Garbled, NotProtocol10, PluginUnsupported, TooLong, StreamTooLong, OutOfMemory}
@@ -62,7 +62,7 @@ module _ {L : Type 0} (of : Ghosts L) where
         gives = λ h. subst (λ (l : List ℕ). Gives of l old new) (sym is) (recv_gives of old new E buffer count served h);
       }
 
-  pub gathers_none : ((one : L) → of.same_origin one one) → (link : L) (frames : Unread) (taken : ℕ) → frames.bytes ≡ [] → Gathers of (reader_at link frames taken) (reader_at link frames taken)
+  pub gathers_none : ((one : L) → of.same_origin one one) → (link : L) (frames : Unread) (taken : ℕ) → frames.bytes ≡ [] → HoldsTaken of (reader_at link frames taken) (reader_at link frames taken)
   gathers_none begins link frames taken none =
       let size : length frames.bytes ≡ 0 = ap (λ (l : List ℕ). length l) none in
       record {
@@ -80,8 +80,8 @@ module _ {L : Type 0} (of : Ghosts L) where
         gives = λ serving. record { alive = serving.alive; state = refl; waits = ap (λ (l : List ℕ). l ++ (of.served link).waiting) (sym none) };
       }
 
-  pub gathers_more : ((one next last : L) → of.same_origin one next → of.same_origin next last → of.same_origin one last) → (start link next : L) (first frames now : Unread) (wants taken_first taken taken_now : ℕ) → Gathers of (reader_at start first taken_first) (reader_at link frames taken) → 0 < wants → Wants frames.limit frames.id frames.bytes wants
-      → (of.tells link ↔ of.tells next) → of.faults link ≤ of.faults next → (of.tells link → (of.told next).sent ≡ (of.told link).sent) → Stays of link next → Fetches of wants (reader_at link frames taken) (reader_at next now taken_now) → Gathers of (reader_at start first taken_first) (reader_at next now taken_now)
+  pub gathers_more : ((one next last : L) → of.same_origin one next → of.same_origin next last → of.same_origin one last) → (start link next : L) (first frames now : Unread) (wants taken_first taken taken_now : ℕ) → HoldsTaken of (reader_at start first taken_first) (reader_at link frames taken) → 0 < wants → Wants frames.limit frames.id frames.bytes wants
+      → (of.tells link ↔ of.tells next) → of.faults link ≤ of.faults next → (of.tells link → (of.told next).sent ≡ (of.told link).sent) → Stays of link next → Fetches of wants (reader_at link frames taken) (reader_at next now taken_now) → HoldsTaken of (reader_at start first taken_first) (reader_at next now taken_now)
   gathers_more joins start link next first frames now wants taken_first taken taken_now gathers some wanted tells later sent stays fetches =
       let same = fetches.frames in
       let bytes_are : now.bytes ≡ frames.bytes ++ fetches.piece = ap (λ (u : Unread). u.bytes) same in
@@ -98,9 +98,9 @@ module _ {L : Type 0} (of : Ghosts L) where
         limit = ap (λ (u : Unread). u.limit) same ∙ gathers.limit;
         taken = omega arith;
         exact =
-            subst (λ (l : List ℕ). IsExact first.limit first.id l) (sym bytes_are) (
-            subst (λ (n : ℕ). IsExact n first.id (frames.bytes ++ fetches.piece)) gathers.limit (
-            subst (λ (n : ℕ). IsExact frames.limit n (frames.bytes ++ fetches.piece)) gathers.id (
+            subst (λ (l : List ℕ). HoldsAtMostOne first.limit first.id l) (sym bytes_are) (
+            subst (λ (n : ℕ). HoldsAtMostOne n first.id (frames.bytes ++ fetches.piece)) gathers.limit (
+            subst (λ (n : ℕ). HoldsAtMostOne frames.limit n (frames.bytes ++ fetches.piece)) gathers.id (
             exact_after frames.limit frames.id wants frames.bytes fetches.piece (wanted.part some) fetches.fits)));
         sent = λ t. sent (gathers.tells.0 t) ∙ gathers.sent t;
         stream = λ t. ap (λ (l : List ℕ). l ++ stream (of.told next)) bytes_are ∙ append_assoc frames.bytes fetches.piece (stream (of.told next)) ∙ ap (λ (l : List ℕ). frames.bytes ++ l) (sym (fetches.stream (gathers.tells.0 t))) ∙ gathers.stream t;
@@ -117,7 +117,7 @@ module _ {L : Type 0} (of : Ghosts L) where
       }
 
   -- where a whole message waited at the start, some of it waits as long as it isn't whole
-  pub gathered_waits : (start link : L) (first frames : Unread) (taken_first taken wants : ℕ) → Gathers of (reader_at start first taken_first) (reader_at link frames taken) → (IsServing of start → MessageWaits first.id (of.served start).waiting) → 0 < wants → Wants frames.limit frames.id frames.bytes wants
+  pub gathered_waits : (start link : L) (first frames : Unread) (taken_first taken wants : ℕ) → HoldsTaken of (reader_at start first taken_first) (reader_at link frames taken) → (IsServing of start → MessageWaits first.id (of.served start).waiting) → 0 < wants → Wants frames.limit frames.id frames.bytes wants
       → IsServing of link → (of.served link).waiting ≢ []
   gathered_waits start link first frames taken_first taken wants gathers waits some wanted serving none =
       let before : IsServing of start = record { honest = gathers.stays.honest.1 serving.honest; alive = gathers.stays.back (gathers.stays.honest.1 serving.honest) serving.alive } in
@@ -126,7 +126,7 @@ module _ {L : Type 0} (of : Ghosts L) where
       (sym (append-nil frames.bytes) ∙ ap (λ (l : List ℕ). frames.bytes ++ l) (sym none) ∙ sym (gathers.gives before).waits ∙ message.waits ∙ ap (λ (n : ℕ). packets n message.message ++ message.after) (sym gathers.id))
       (wanted.part some)
 
-  module _ (start link : L) (first frames : Unread) (taken_first taken : ℕ) (gathers : Gathers of (reader_at start first taken_first) (reader_at link frames taken)) (limited : first.limit ≡ 67108864) (inside : taken ≤ 2 ^ 62) where
+  module _ (start link : L) (first frames : Unread) (taken_first taken : ℕ) (gathers : HoldsTaken of (reader_at start first taken_first) (reader_at link frames taken)) (limited : first.limit ≡ 67108864) (inside : taken ≤ 2 ^ 62) where
     ends_exactly : (new : Unread) → Passes frames new → new.bytes ≡ []
     ends_exactly new passes =
         gathers.exact.ends new.message new.bytes (subst (λ (n : ℕ). HasMessage n first.id new.message frames.bytes new.bytes) gathers.limit (subst (λ (n : ℕ). HasMessage frames.limit n new.message frames.bytes new.bytes) gathers.id passes.message))
@@ -240,7 +240,7 @@ module _ {L : Type 0} (of : Ghosts L) where
         )
     gathered_part OutOfMemory wants id taken_now next some wanted sent why t = sent (gathers.tells.0 t) ∙ gathers.sent t
 
-    pub settled_keeps : (result : Result (Unit {0}) SessionFault) → IfErr result (Unsettled frames taken_first) → Keeps of start link result
+    pub settled_keeps : (result : Result (Unit {0}) SessionFault) → IfErr result (Unsettled frames taken_first) → KeepsLink of start link result
     settled_keeps (Ok done) why = keeps_ok of done start link gathers.stays gathers.tells gathers.later
     settled_keeps (Err fault) why = keeps_err of fault start link gathers.stays gathers.tells gathers.later (λ is. absurd (subst (λ (f : SessionFault). Unsettled frames taken_first f) is why))
 

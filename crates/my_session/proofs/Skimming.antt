@@ -18,7 +18,7 @@ use Rattle.my_session.proofs.Links.{taken_off, recv_gives}
 use Rattle.my_session.proofs.Payloads.{part_is_not_all}
 use Rattle.my_session.proofs.Staying.{stays_begin, stays_on}
 use Rattle.my_session.proofs.Within.{wrong_within, full_within}
-use Rattle.my_session.specs.Channel.{link_at, wire_at, packets_within, HearsNone, IsOfChannel, SkimsTo, Skimmed as Skimming}
+use Rattle.my_session.specs.Channel.{link_at, wire_at, packets_within, HearsNone, IsOfChannel, SkimsTo, HearsFront as Skimming}
 use Rattle.my_session.specs.Halt.{Misheard}
 use Rattle.my_session.specs.Receiving.{SkimsPiece, Spoils, Drains, Unskimmed, skimmer_at}
 use Rattle.my_session.specs.Serving.{IsServing, MessageWaits, Stays, Gives, DeliversFront}

@@ -2,7 +2,7 @@
 use Rattle.std.proofs.Common.{◌≡◌, ◌≤◌, ◌↔◌, refl, ◌∙◌, ap, arith, Ok, Err}
 use Rattle.link_traits.specs.Cause.{Rose}
 use Rattle.link_traits.specs.declared.link.Link.{Ghosts}
-use Rattle.my_session.specs.Serving.{Keeps, Stays}
+use Rattle.my_session.specs.Serving.{KeepsLink, Stays}
 use Rattle.my_session.specs.declared.fault.SessionFault.{SessionFault}
 use Rattle.my_session.specs.declared.fault.SessionFault.TheVariants.{Link}
 
@@ -23,14 +23,14 @@ module _ {L : Type 0} (of : Ghosts L) where
     back = λ h alive. first.back h (later.back (first.honest.0 h) alive);
   }
 
-  pub keeps_ok : {A : Type 0} (answer : A) (old new : L) → Stays of old new → (of.tells old ↔ of.tells new) → of.faults old ≤ of.faults new → Keeps of old new (Ok answer)
+  pub keeps_ok : {A : Type 0} (answer : A) (old new : L) → Stays of old new → (of.tells old ↔ of.tells new) → of.faults old ≤ of.faults new → KeepsLink of old new (Ok answer)
   keeps_ok answer old new stays tells later = record { stays = stays; tells = tells; counted = record { later = later; failed = λ is. absurd (cc) } }
 
-  pub keeps_err : {A : Type 0} (fault : SessionFault) (old new : L) → Stays of old new → (of.tells old ↔ of.tells new) → of.faults old ≤ of.faults new → (fault ≡ Link → Rose (of.faults old) (of.faults new)) → Keeps of {A = A} old new (Err fault)
+  pub keeps_err : {A : Type 0} (fault : SessionFault) (old new : L) → Stays of old new → (of.tells old ↔ of.tells new) → of.faults old ≤ of.faults new → (fault ≡ Link → Rose (of.faults old) (of.faults new)) → KeepsLink of {A = A} old new (Err fault)
   keeps_err fault old new stays tells later rose = record { stays = stays; tells = tells; counted = record { later = later; failed = λ is. rose (cc) } }
 
   -- what a call of a part keeps, the whole keeps with what was done before
-  pub keeps_err_on : {A B : Type 0} → ((one next last : L) → of.same_origin one next → of.same_origin next last → of.same_origin one last) → (fault : SessionFault) (start link next : L) → Stays of start link → (of.tells start ↔ of.tells link) → of.faults start ≤ of.faults link → Keeps of {A = A} link next (Err fault) → Keeps of {A = B} start next (Err fault)
+  pub keeps_err_on : {A B : Type 0} → ((one next last : L) → of.same_origin one next → of.same_origin next last → of.same_origin one last) → (fault : SessionFault) (start link next : L) → Stays of start link → (of.tells start ↔ of.tells link) → of.faults start ≤ of.faults link → KeepsLink of {A = A} link next (Err fault) → KeepsLink of {A = B} start next (Err fault)
   keeps_err_on joins fault start link next stays tells later keeps =
       let after = keeps.counted.later in
       keeps_err fault start next (stays_on joins start link next stays keeps.stays)

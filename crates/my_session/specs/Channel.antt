@@ -50,7 +50,7 @@ abbrev pub channel_wire : {L : Type 0} → Ghosts L → ChannelView L → Wire
 channel_wire of channel = wire_at of (link_of channel)
 
 -- a message was heard, of which a skim kept the front
-pub record Skimmed (skim : SkimmedView) (old new : Wire) : Type 0 where
+pub record HearsFront (skim : SkimmedView) (old new : Wire) : Type 0 where
   pub message : List ℕ
   pub heard : Hears message old new
   pub skims : Skims old.id 67108864 (packets old.id message) skim
@@ -123,7 +123,7 @@ module _ {L : Type 0} (of : Ghosts L) where
   -- the next message was taken off a link, of which a skim kept the front
   pub record SkimsNext (skim : SkimmedView) (old new : LinkAt L) : Type 0 where
     pub delivers : IsServing of old.link → DeliversFront of skim old.link old.id new.link new.id
-    pub heard : of.tells old.link → Skimmed skim (wire_at of old) (wire_at of new)
+    pub heard : of.tells old.link → HearsFront skim (wire_at of old) (wire_at of new)
 
   -- the next message was taken off a link up to this place, and the next packet has the id after its packets
   abbrev pub SkimsTo : SkimmedView → LinkAt L → L → ℕ → Type 0

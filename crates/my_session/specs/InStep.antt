@@ -19,7 +19,7 @@ use Rattle.statement_forms.specs.declared.command.Command.{Command}
 use Rattle.my_session.specs.Peer.{IsPeerOf}
 use Rattle.my_session.specs.Channel.{ChannelView}
 use Rattle.my_session.specs.Serving.{IsServing, MessageWaits, DeliversReply, DeliversRefusal}
-use Rattle.my_session.specs.Session.{SessionView, IsOfStatement, ends_session, rows_of}
+use Rattle.my_session.specs.Session.{SessionView, IsOfStatement, ends_session, rows_awaited}
 use Rattle.my_session.specs.Wire.{IsOnward}
 use Rattle.statement_forms.specs.Statement.{CommandHasText}
 use Rattle.my_session.specs.declared.fault.SessionFault.{SessionFault}
@@ -182,8 +182,8 @@ module _ {L : Type 0} (of : Ghosts L) where
   pub record HasOpened (ends : Ends) (columns : ℕ) (channel : ChannelView L)
       (reading : Reading) : Type 0 where
     pub some : 0 < columns
-    pub reader : reading ≡ rows_of ends columns
-    pub rest : AwaitsRest channel (rows_of ends columns)
+    pub reader : reading ≡ rows_awaited ends columns
+    pub rest : AwaitsRest channel (rows_awaited ends columns)
 
   -- a statement failed: where the fault is an ERR, the session is open after it and nothing waits
   pub record FailsStatement (fault : SessionFault) (channel : ChannelView L) : Type 0 where

@@ -98,18 +98,18 @@ Unsettled frames began StreamTooLong = ⊥
 Unsettled frames began OutOfMemory = ⊥
 
 -- the bytes hold no message, or a message and nothing after it
-pub record IsExact (limit id : ℕ) (bytes : List ℕ) : Type 0 where
+pub record HoldsAtMostOne (limit id : ℕ) (bytes : List ℕ) : Type 0 where
   pub ends : (message after : List ℕ) → HasMessage limit id message bytes after → after ≡ []
 
 -- the bytes of a reader are those that were taken off a link since then
-pub record Gathers {L : Type 0} (of : Ghosts L) (old new : Reader L) : Type 0 where
+pub record HoldsTaken {L : Type 0} (of : Ghosts L) (old new : Reader L) : Type 0 where
   pub tells : of.tells old.link ↔ of.tells new.link
   pub later : of.faults old.link ≤ of.faults new.link
   pub id : new.frames.id ≡ old.frames.id
   pub place : new.frames.place ≡ old.frames.place
   pub limit : new.frames.limit ≡ old.frames.limit
   pub taken : new.taken ≡ old.taken + length new.frames.bytes
-  pub exact : IsExact old.frames.limit old.frames.id new.frames.bytes
+  pub exact : HoldsAtMostOne old.frames.limit old.frames.id new.frames.bytes
   pub sent : of.tells old.link → (of.told new.link).sent ≡ (of.told old.link).sent
   pub stream : of.tells old.link →
       new.frames.bytes ++ stream (of.told new.link) ≡ stream (of.told old.link)

@@ -44,7 +44,7 @@ module _ {L : Type 0} (of : Ghosts L) where
     pub back : of.honest old → (of.served new).failed ≡ false → (of.served old).failed ≡ false
 
   -- what every call keeps of its link, whatever it answers
-  pub record Keeps {A : Type 0} (old new : L) (result : Result A SessionFault) : Type 0 where
+  pub record KeepsLink {A : Type 0} (old new : L) (result : Result A SessionFault) : Type 0 where
     pub stays : Stays old new
     pub tells : of.tells old ↔ of.tells new
     pub counted : IsCounted (of.faults old) (of.faults new) result

@@ -29,8 +29,8 @@ pub record Pending : Type 0 where
   pub form : Form
 
 -- rows are awaited of so many columns, where result sets end so
-abbrev pub rows_of : Ends → ℕ → Reading
-rows_of ends columns = record { columns = columns; awaited = 0; ends = ends }
+abbrev pub rows_awaited : Ends → ℕ → Reading
+rows_awaited ends columns = record { columns = columns; awaited = 0; ends = ends }
 
 -- a session: its link, how many bytes were heard on it, the sequence id of the next packet, what the greeting said of the server,
 -- whether the session has failed, and what is pending
@@ -96,7 +96,7 @@ Runs command old (Err fault) new = Stops (RunAwaits command) (RunSends command) 
 -- what asking a query does, where result sets end so
 abbrev pub Asks : Ends → Query → Wire → Result ℕ SessionFault → Wire → Type 0
 Asks ends query old (Ok columns) new =
-    Takes (λ steps. IsDescribed query steps (rows_of ends columns)) old new
+    Takes (λ steps. IsDescribed query steps (rows_awaited ends columns)) old new
 Asks ends query old (Err fault) new =
     Stops (QueryAwaits ends query) (QuerySends query) old fault new
 
@@ -108,7 +108,7 @@ LeadStops query old fault new = Stops (LeadAwaits query) (LeadSends query) old f
 abbrev pub Describes : Query → Reading → Wire → Result (Unit {0}) SessionFault → Wire → Type 0
 Describes query reading old (Ok done) new =
     (start : Wire) → Takes (λ steps. IsDescribed query steps reading) start old →
-    Takes (λ steps. IsDescribed query steps (rows_of reading.ends reading.columns)) start new
+    Takes (λ steps. IsDescribed query steps (rows_awaited reading.ends reading.columns)) start new
 Describes query reading old (Err fault) new =
     (start : Wire) → Takes (λ steps. IsDescribed query steps reading) start old →
     Stops (QueryAwaits reading.ends query) (QuerySends query) start fault new
@@ -116,7 +116,7 @@ Describes query reading old (Err fault) new =
 -- the rows of a query are pending, which have so many columns, and at least one
 pub record HasPending (ends : Ends) (query : Query) (columns : ℕ) (pending : Pending) : Type 0 where
   pub some : 0 < columns
-  pub is : pending ≡ record { reading = rows_of ends columns; form = query_form query }
+  pub is : pending ≡ record { reading = rows_awaited ends columns; form = query_form query }
 
 -- what is pending after a query
 abbrev pub PendingAfter : Ends → Query → Result ℕ SessionFault → Pending → Type 0

@@ -4,7 +4,7 @@ ghost use Rattle.honest_server.specs.Link.{MaySend};
 ghost use Rattle.wire_forms.specs.Packet.{packet};
 ghost use Rattle.my_session.specs.Channel.{ChannelView, link_of, packets_within, IsOfLink, IsUnsent};
 ghost use Rattle.my_session.specs.Channel.{SendsPackets, SendsNone, Says, SaysNone, HearsNext, SkimsNext, HearsNone};
-ghost use Rattle.my_session.specs.Serving.{IsServing, Keeps, MaySay, MessageWaits};
+ghost use Rattle.my_session.specs.Serving.{IsServing, KeepsLink, MaySay, MessageWaits};
 ghost use Rattle.my_session.specs.Session.{failed_by};
 
 use crate::fault::SessionFault;
@@ -61,7 +61,7 @@ fn packets_within(bytes: u64) -> u64
 fn send<L: Link>(link: &mut L, packets: &[u8]) -> Result<(), SessionFault>
     requires may { L.honest link.old → MaySend (L.served link.old).state packets.now }
 
-    ensures keeps { Keeps L.Link link.old link.new result }
+    ensures keeps { KeepsLink L.Link link.old link.new result }
     ensures ok { OnOk result (SendsPackets L.Link packets.now link.old link.new) }
     ensures err { IfErr result (SendsNone L.Link IsOfLink link.old link.new) }
 {
@@ -132,7 +132,7 @@ impl<L: Link> Channel<L> {
         requires alive { self.old.has_failed ≡ false }
         requires may { L.honest self.old.link → MaySend (L.served self.old.link).state packets.now }
 
-        ensures keeps { Keeps L.Link self.old.link self.new.link result }
+        ensures keeps { KeepsLink L.Link self.old.link self.new.link result }
         ensures failed { self.new.has_failed ≡ failed_by result }
         ensures place { self.new.place ≡ self.old.place }
         ensures id { OnOk result (self.new.id ≡ next_id) }
@@ -159,7 +159,7 @@ impl<L: Link> Channel<L> {
         requires may { L.honest self.old.link →
             MaySay id payload.now (L.served self.old.link).state }
 
-        ensures keeps { Keeps L.Link self.old.link self.new.link result }
+        ensures keeps { KeepsLink L.Link self.old.link self.new.link result }
         ensures failed { self.new.has_failed ≡ failed_by result }
         ensures ok { OnOk result (Says L.Link id payload.now self.old self.new) }
         ensures err { IfErr result (SendsNone L.Link IsOfLink self.old.link self.new.link) }
@@ -180,7 +180,7 @@ impl<L: Link> Channel<L> {
         requires may { L.honest self.old.link →
             MaySay id payload.now (L.served self.old.link).state }
 
-        ensures keeps { Keeps L.Link self.old.link self.new.link result }
+        ensures keeps { KeepsLink L.Link self.old.link self.new.link result }
         ensures failed { self.new.has_failed ≡ failed_by result }
         ensures ok { OnOk result (Says L.Link id payload.now self.old self.new) }
         ensures memory { length payload.now ≤ SHORT_PAYLOAD →
@@ -204,7 +204,7 @@ impl<L: Link> Channel<L> {
         requires may { L.honest self.old.link →
             MaySay self.old.id payload.now (L.served self.old.link).state }
 
-        ensures keeps { Keeps L.Link self.old.link self.new.link result }
+        ensures keeps { KeepsLink L.Link self.old.link self.new.link result }
         ensures failed { self.new.has_failed ≡ failed_by result }
         ensures ok { OnOk result (Says L.Link self.old.id payload.now self.old self.new) }
         ensures err { IfErr result (SaysNone L.Link payload.now self.old self.new) }
@@ -220,7 +220,7 @@ impl<L: Link> Channel<L> {
         requires may { L.honest self.old.link →
             MaySay id payload.now (L.served self.old.link).state }
 
-        ensures keeps { Keeps L.Link self.old.link self.new.link result }
+        ensures keeps { KeepsLink L.Link self.old.link self.new.link result }
         ensures failed { self.new.has_failed ≡ failed_by result }
         ensures ok { OnOk result (Says L.Link id payload.now self.old self.new) }
         ensures err { IfErr result (SendsNone L.Link IsUnsent self.old.link self.new.link) }
@@ -251,7 +251,7 @@ impl<L: Link> Channel<L> {
         requires waits { IsServing L.Link self.old.link →
             MessageWaits self.old.id (L.served self.old.link).waiting }
 
-        ensures keeps { Keeps L.Link self.old.link self.new.link result }
+        ensures keeps { KeepsLink L.Link self.old.link self.new.link result }
         ensures failed { self.new.has_failed ≡ failed_by result }
         ensures began { OnOk result (self.new.began ≡ self.old.place) }
         ensures ok { OnOk result
@@ -284,7 +284,7 @@ impl<L: Link> Channel<L> {
         requires waits { IsServing L.Link self.old.link →
             MessageWaits self.old.id (L.served self.old.link).waiting }
 
-        ensures keeps { Keeps L.Link self.old.link self.new.link result }
+        ensures keeps { KeepsLink L.Link self.old.link self.new.link result }
         ensures failed { self.new.has_failed ≡ failed_by result }
         ensures memory { result ≡ Err SessionFault.OutOfMemory → ⊥ }
         ensures ok { IfOk result

@@ -13,7 +13,7 @@ ghost use Rattle.my_session.specs.Heard.{HearsGreeting, HearsDecision, IsDecisio
 ghost use Rattle.my_session.specs.InStep.{phase_after, AwaitsGreeting, DecisionWaits, IsQuiet};
 ghost use Rattle.my_session.specs.Login.{password_answer, switch_answer, IsGreeted, IsLoggedIn};
 ghost use Rattle.my_session.specs.Peer.{IsPeerOf, peer_of};
-ghost use Rattle.my_session.specs.Serving.{Keeps};
+ghost use Rattle.my_session.specs.Serving.{KeepsLink};
 ghost use Rattle.my_session.specs.Session.{Runs};
 ghost use Rattle.my_session.specs.Wire.{Takes};
 
@@ -86,7 +86,7 @@ fn peer_of(greeting: &Greeting) -> Peer
 fn hear_greeting<L: Link>(channel: &mut Channel<L>) -> Result<Greeting, SessionFault>
     requires awaits { AwaitsGreeting L.Link channel.old }
 
-    ensures keeps { Keeps L.Link channel.old.link channel.new.link result }
+    ensures keeps { KeepsLink L.Link channel.old.link channel.new.link result }
     ensures quiet { OnOk result
         (L.honest channel.new.link → IsQuiet L.Link greeted channel.new.link) }
     ensures server { IfOk result (λ found. L.honest channel.new.link →
@@ -117,7 +117,7 @@ fn respond<L: Link>(
     requires alive { channel.old.has_failed ≡ false }
     requires quiet { L.honest channel.old.link → IsQuiet L.Link greeted channel.old.link }
 
-    ensures keeps { Keeps L.Link channel.old.link channel.new.link result }
+    ensures keeps { KeepsLink L.Link channel.old.link channel.new.link result }
     ensures decision { OnOk result
         (L.honest channel.new.link → DecisionWaits L.Link channel.new.link channel.new.id) }
     ensures alive { OnOk result (channel.new.has_failed ≡ false) }
@@ -142,7 +142,7 @@ fn greet<L: Link>(
 ) -> Result<Peer, SessionFault>
     requires awaits { AwaitsGreeting L.Link channel.old }
 
-    ensures keeps { Keeps L.Link channel.old.link channel.new.link result }
+    ensures keeps { KeepsLink L.Link channel.old.link channel.new.link result }
     ensures decision { OnOk result
         (L.honest channel.new.link → DecisionWaits L.Link channel.new.link channel.new.id) }
     ensures alive { OnOk result (channel.new.has_failed ≡ false) }
@@ -200,7 +200,7 @@ fn hear_decision<L: Link>(channel: &mut Channel<L>) -> Result<Decision, SessionF
     requires decision { L.honest channel.old.link →
         DecisionWaits L.Link channel.old.link channel.old.id }
 
-    ensures keeps { Keeps L.Link channel.old.link channel.new.link result }
+    ensures keeps { KeepsLink L.Link channel.old.link channel.new.link result }
     ensures quiet { IfOk result
         (λ found. L.honest channel.new.link → IsQuiet L.Link (phase_after found) channel.new.link) }
     ensures alive { OnOk result (channel.new.has_failed ≡ false) }
@@ -224,7 +224,7 @@ fn answer_switch<L: Link>(
     requires alive { channel.old.has_failed ≡ false }
     requires quiet { L.honest channel.old.link → IsQuiet L.Link switching channel.old.link }
 
-    ensures keeps { Keeps L.Link channel.old.link channel.new.link result }
+    ensures keeps { KeepsLink L.Link channel.old.link channel.new.link result }
     ensures quiet { OnOk result
         (L.honest channel.new.link → IsQuiet L.Link in_session channel.new.link) }
     ensures alive { OnOk result (channel.new.has_failed ≡ false) }
@@ -248,7 +248,7 @@ fn send_answer<L: Link>(
     requires alive { channel.old.has_failed ≡ false }
     requires quiet { L.honest channel.old.link → IsQuiet L.Link switching channel.old.link }
 
-    ensures keeps { Keeps L.Link channel.old.link channel.new.link result }
+    ensures keeps { KeepsLink L.Link channel.old.link channel.new.link result }
     ensures decision { OnOk result
         (L.honest channel.new.link → DecisionWaits L.Link channel.new.link channel.new.id) }
     ensures alive { OnOk result (channel.new.has_failed ≡ false) }
@@ -269,7 +269,7 @@ fn be_accepted<L: Link>(channel: &mut Channel<L>, password: &[u8]) -> Result<(),
     requires decision { L.honest channel.old.link →
         DecisionWaits L.Link channel.old.link channel.old.id }
 
-    ensures keeps { Keeps L.Link channel.old.link channel.new.link result }
+    ensures keeps { KeepsLink L.Link channel.old.link channel.new.link result }
     ensures quiet { OnOk result
         (L.honest channel.new.link → IsQuiet L.Link in_session channel.new.link) }
     ensures alive { OnOk result (channel.new.has_failed ≡ false) }
@@ -290,7 +290,7 @@ fn set_up<L: Link>(channel: &mut Channel<L>, payload: &mut Buffer) -> Result<(),
     requires alive { channel.old.has_failed ≡ false }
     requires quiet { L.honest channel.old.link → IsQuiet L.Link in_session channel.old.link }
 
-    ensures keeps { Keeps L.Link channel.old.link channel.new.link result }
+    ensures keeps { KeepsLink L.Link channel.old.link channel.new.link result }
     ensures quiet { OnOk result
         (L.honest channel.new.link → IsQuiet L.Link in_session channel.new.link) }
     ensures alive { OnOk result (channel.new.has_failed ≡ false) }
@@ -314,7 +314,7 @@ pub(crate) fn log_in<L: Link>(
 ) -> Result<Peer, SessionFault>
     requires awaits { AwaitsGreeting L.Link channel.old }
 
-    ensures keeps { Keeps L.Link channel.old.link channel.new.link result }
+    ensures keeps { KeepsLink L.Link channel.old.link channel.new.link result }
     ensures quiet { OnOk result
         (L.honest channel.new.link → IsQuiet L.Link in_session channel.new.link) }
     ensures server { IfOk result (λ peer. L.honest channel.new.link →

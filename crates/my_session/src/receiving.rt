@@ -6,7 +6,7 @@ ghost use Rattle.my_packets.specs.Steps.{Passes};
 ghost use Rattle.my_session.specs.Channel.{link_at, HearsNext, HearsNone, SkimsTo};
 ghost use Rattle.my_session.specs.Receiving.{Fetches, IsReader, IsStillWithin, MayTake, SkimsPiece, StaysReader, reader_at, skimmer_at};
 ghost use Rattle.my_session.specs.Receiving.{Unfetched, Unsettled, Unskimmed};
-ghost use Rattle.my_session.specs.Serving.{IsServing, Keeps, MessageWaits};
+ghost use Rattle.my_session.specs.Serving.{IsServing, KeepsLink, MessageWaits};
 
 use crate::fault::SessionFault;
 use crate::limits::{MESSAGE_LIMIT, PIECE, SESSION_LIMIT};
@@ -39,7 +39,7 @@ fn fetch<L: Link>(
     requires may { MayTake L.Link link.old taken.old }
     requires place { frames.old.place + length frames.old.bytes ≤ taken.old }
 
-    ensures keeps { Keeps L.Link link.old link.new result }
+    ensures keeps { KeepsLink L.Link link.old link.new result }
     ensures stays { StaysReader L.Link (reader_at link.old frames.old taken.old)
         (reader_at link.new frames.new taken.new) }
     ensures ok { OnOk result (Fetches L.Link wants (reader_at link.old frames.old taken.old)
@@ -91,7 +91,7 @@ pub(crate) fn receive<L: Link>(
     requires waits { IsServing L.Link link.old →
         MessageWaits frames.old.id (L.served link.old).waiting }
 
-    ensures keeps { Keeps L.Link link.old link.new result }
+    ensures keeps { KeepsLink L.Link link.old link.new result }
     ensures reader { IsReader frames.new taken.new }
     ensures empty { OnOk result (frames.new.bytes ≡ []) }
     ensures ok { OnOk result (HearsNext L.Link frames.new.message
@@ -124,7 +124,7 @@ fn skim_piece<L: Link>(
     requires wanted { wants ≡ wanted skim.old }
     requires may { MayTake L.Link link.old taken.old }
 
-    ensures keeps { Keeps L.Link link.old link.new result }
+    ensures keeps { KeepsLink L.Link link.old link.new result }
     ensures still { IsStillWithin taken.old taken.new }
     ensures sent { L.tells link.old → (L.told link.new).sent ≡ (L.told link.old).sent }
     ensures ok { OnOk result (SkimsPiece L.Link (skimmer_at link.old skim.old taken.old)
@@ -160,7 +160,7 @@ pub(crate) fn skim_message<L: Link>(
     requires within { taken.old ≤ SESSION_LIMIT }
     requires waits { IsServing L.Link link.old → MessageWaits id (L.served link.old).waiting }
 
-    ensures keeps { Keeps L.Link link.old link.new result }
+    ensures keeps { KeepsLink L.Link link.old link.new result }
     ensures still { IsStillWithin taken.old taken.new }
     ensures size { OnOk result (4 ≤ taken.new - taken.old) }
     ensures memory { result ≡ Err SessionFault.OutOfMemory → ⊥ }

@@ -12,8 +12,8 @@ ghost use Rattle.my_session.specs.Heard.{HearsReply, HearsDefinition, IsAfterRow
 ghost use Rattle.honest_server.specs.State.{in_session};
 ghost use Rattle.my_session.specs.InStep.{AwaitsDefinition, AwaitsReply, AwaitsRest, AwaitsRow, FollowsEnds, HasCounted, HasOpened, IsAtRest, IsHeardNext, FailsStatement};
 ghost use Rattle.my_session.specs.Lead.{lead_of};
-ghost use Rattle.my_session.specs.Serving.{Keeps};
-ghost use Rattle.my_session.specs.Session.{Asks, Describes, EndsStatement, IsOfStatement, LeadStops, failed_by, rows_of};
+ghost use Rattle.my_session.specs.Serving.{KeepsLink};
+ghost use Rattle.my_session.specs.Session.{Asks, Describes, EndsStatement, IsOfStatement, LeadStops, failed_by, rows_awaited};
 ghost use Rattle.my_session.specs.Statements.{IsLed, query_payload};
 ghost use Rattle.my_session.specs.Wire.{Hears, Takes};
 
@@ -78,7 +78,7 @@ fn lead<L: Link>(
 ) -> Result<(), SessionFault>
     requires rest { IsAtRest L.Link in_session channel.old }
 
-    ensures keeps { Keeps L.Link channel.old.link channel.new.link result }
+    ensures keeps { KeepsLink L.Link channel.old.link channel.new.link result }
     ensures rest { failed_by result ≡ false → IsAtRest L.Link in_session channel.new }
     ensures room { length payload.old.bytes + payload.old.spare ≤ length payload.new.bytes
         + payload.new.spare }
@@ -123,7 +123,7 @@ fn send_query<L: Link>(
     requires text { QueryHasText query.now }
     requires rest { IsAtRest L.Link in_session channel.old }
 
-    ensures keeps { Keeps L.Link channel.old.link channel.new.link result }
+    ensures keeps { KeepsLink L.Link channel.old.link channel.new.link result }
     ensures awaits { OnOk result (AwaitsReply L.Link channel.new) }
     ensures room { length payload.old.bytes + payload.old.spare ≤ length payload.new.bytes
         + payload.new.spare }
@@ -150,7 +150,7 @@ fn hear_count<L: Link>(
     requires server { L.honest channel.old.link →
         reader.old.ends ≡ (L.served channel.old.link).state.terms.server.ends }
 
-    ensures keeps { Keeps L.Link channel.old.link channel.new.link result }
+    ensures keeps { KeepsLink L.Link channel.old.link channel.new.link result }
     ensures counted { IfOk result
         (λ columns. HasCounted L.Link reader.old.ends columns channel.new reader.new) }
     ensures fault { IfErr result (λ fault. FailsStatement L.Link fault channel.new) }
@@ -194,7 +194,7 @@ fn hear_definition<L: Link>(
     requires awaits { AwaitsDefinition reader.old }
     requires rest { AwaitsRest L.Link channel.old reader.old }
 
-    ensures keeps { Keeps L.Link channel.old.link channel.new.link result }
+    ensures keeps { KeepsLink L.Link channel.old.link channel.new.link result }
     ensures rest { OnOk result (AwaitsRest L.Link channel.new reader.new) }
     ensures fault { IfErr result EndsStatement }
     ensures reader { OnOk result
@@ -236,10 +236,10 @@ fn describe<L: Link>(
 ) -> Result<(), SessionFault>
     requires counted { HasCounted L.Link ends columns channel.old reader.old }
 
-    ensures keeps { Keeps L.Link channel.old.link channel.new.link result }
+    ensures keeps { KeepsLink L.Link channel.old.link channel.new.link result }
     ensures rest { OnOk result (AwaitsRest L.Link channel.new reader.new) }
     ensures fault { IfErr result EndsStatement }
-    ensures reader { OnOk result (reader.new ≡ rows_of ends columns) }
+    ensures reader { OnOk result (reader.new ≡ rows_awaited ends columns) }
     ensures describes { L.tells channel.old.link → Describes query.now (columns_counted ends
         columns) (channel_wire L.Link channel.old) result (channel_wire L.Link channel.new) }
 {
@@ -266,7 +266,7 @@ fn ask<L: Link>(
     requires rest { IsAtRest L.Link in_session channel.old }
     requires follows { FollowsEnds L.Link ends reader.old channel.old.link }
 
-    ensures keeps { Keeps L.Link channel.old.link channel.new.link result }
+    ensures keeps { KeepsLink L.Link channel.old.link channel.new.link result }
     ensures opened { IfOk result (λ columns. HasOpened L.Link ends columns channel.new reader.new) }
     ensures room { length payload.old.bytes + payload.old.spare ≤ length payload.new.bytes
         + payload.new.spare }
@@ -327,7 +327,7 @@ fn advance<L: Link>(
     requires awaits { AwaitsRow ends reader.old }
     requires rest { AwaitsRest L.Link channel.old reader.old }
 
-    ensures keeps { Keeps L.Link channel.old.link channel.new.link result }
+    ensures keeps { KeepsLink L.Link channel.old.link channel.new.link result }
     ensures rest { failed_by result ≡ false → AwaitsRest L.Link channel.new reader.new }
     ensures next { OnOk result (IsHeardNext channel.old channel.new) }
     ensures reader { MatchResult result (λ is_row. IsAfterRow ends reader.old channel.new.message

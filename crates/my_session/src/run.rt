@@ -9,7 +9,7 @@ ghost use Rattle.my_session.specs.Halt.{Halts, Misheard};
 ghost use Rattle.my_session.specs.Heard.{HasColumns, HearsReply, ReadsReply, reading_of};
 ghost use Rattle.honest_server.specs.State.{in_session};
 ghost use Rattle.my_session.specs.InStep.{AwaitsMessage, IsAtRest, MayRun, ServesRefusal, ServesReply};
-ghost use Rattle.my_session.specs.Serving.{Keeps};
+ghost use Rattle.my_session.specs.Serving.{KeepsLink};
 ghost use Rattle.my_session.specs.Session.{IsOfStatement, NeedsNoMemory, Runs, ends_session, failed_by};
 ghost use Rattle.my_session.specs.Statements.{command_payload};
 
@@ -30,7 +30,7 @@ pub(crate) fn hear_reply<L: Link>(
 ) -> Result<Option<Reply>, SessionFault>
     requires awaits { AwaitsMessage L.Link channel.old }
 
-    ensures keeps { Keeps L.Link channel.old.link channel.new.link result }
+    ensures keeps { KeepsLink L.Link channel.old.link channel.new.link result }
     ensures delivers { IfOk result (λ reply. ServesReply L.Link reply channel.old channel.new) }
     ensures alive { OnOk result (channel.new.has_failed ≡ false) }
     ensures fault { NeedsNoMemory IsOfChannel result }
@@ -59,7 +59,7 @@ pub(crate) fn read_reply(payload: &[u8], reader: &mut RowReader) -> Option<Reply
 pub(crate) fn hear_done<L: Link>(channel: &mut Channel<L>, form: Form) -> Result<(), SessionFault>
     requires awaits { AwaitsMessage L.Link channel.old }
 
-    ensures keeps { Keeps L.Link channel.old.link channel.new.link result }
+    ensures keeps { KeepsLink L.Link channel.old.link channel.new.link result }
     ensures done { OnOk result (ServesReply L.Link (Some Reply.Done) channel.old channel.new) }
     ensures refusal { IfErr result
         (λ fault. ends_session fault ≡ false → ServesRefusal L.Link channel.old channel.new) }
@@ -112,7 +112,7 @@ pub(crate) fn run_on<L: Link>(
     requires rest { IsAtRest L.Link in_session channel.old }
     requires may { MayRun L.Link command.now channel.old.link }
 
-    ensures keeps { Keeps L.Link channel.old.link channel.new.link result }
+    ensures keeps { KeepsLink L.Link channel.old.link channel.new.link result }
     ensures rest { failed_by result ≡ false → IsAtRest L.Link in_session channel.new }
     ensures room { length payload.old.bytes + payload.old.spare ≤ length payload.new.bytes
         + payload.new.spare }

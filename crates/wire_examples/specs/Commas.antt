@@ -3,5 +3,5 @@ use Rattle.std.specs.Prelude.{[], ◌∷◌}
 use Rattle.grammar.specs.Language.{Language, Many, Fixed}
 
 -- any number of commas, one after the other
-abbrev pub commas : Language
-commas = Many (Fixed (44 ∷ []))
+abbrev pub comma_texts : Language
+comma_texts = Many (Fixed (44 ∷ []))
