@@ -10,7 +10,7 @@ use Rattle.wire_forms.specs.Reading.{idle}
 use Rattle.my_session.specs.declared.fault.SessionFault.TheVariants.{Link, Refused, Garbled, NotProtocol10, PluginUnsupported, TooLong, StreamTooLong, OutOfMemory}
 use Rattle.result_rows.specs.RowCells.{row_cells}
 use Rattle.result_rows.specs.declared.row.Row.{Row}
-use Rattle.sql_cells.specs.Literal.{Cell}
+use Rattle.plain_data.specs.Cell.{Cell}
 use Rattle.statement_forms.specs.declared.form.Form.TheVariants.{Select}
 use Rattle.dumper_cli.specs.Next.{IsReady, HasPendingRows, Keeps, ColumnAdded, ColumnsEnd, RowAdded, RowsEnd, Broke}
 use Rattle.dumper_cli.specs.Run.{Start, Reached, Halted}

@@ -6,7 +6,7 @@ use Rattle.my_session.specs.Wire.{Wire, Hears, after_sent}
 use Rattle.my_session.specs.declared.fault.SessionFault.{SessionFault}
 use Rattle.my_session.specs.declared.fault.SessionFault.TheVariants.{TooLong}
 use Rattle.my_session.specs.declared.limits.TheConstants.{MESSAGE_LIMIT}
-use Rattle.sql_cells.specs.Literal.{Cell}
+use Rattle.plain_data.specs.Cell.{Cell}
 use Rattle.dumper_cli.specs.Course.{Comes, at_start, commanded, answered, heard, IsWhole, IsOverlong, EndsAt, at_message, at_unfit, at_disorder, at_length, at_limit, EndsWith, awaiting_it, sending_it, HasOneOutcome}
 use Rattle.dumper_cli.specs.Stage.{Stage, Doing, awaits_greeting, is_over, commanding, answering, awaiting, nothing, doing, stage_after}
 use Rattle.dumper_cli.specs.Words.{Asked}

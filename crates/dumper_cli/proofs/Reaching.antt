@@ -14,7 +14,7 @@ use Rattle.wire_forms.specs.declared.ends.Ends.{Ends as Ending}
 use Rattle.wire_forms.specs.Reading.{Reading, Further, definition, row, end, reading_after, further_of}
 use Rattle.result_rows.specs.RowCells.{row_cells}
 use Rattle.result_rows.specs.declared.row.Row.{Row}
-use Rattle.sql_cells.specs.Literal.{Cell}
+use Rattle.plain_data.specs.Cell.{Cell}
 use Rattle.statement_forms.specs.declared.command.Command.TheVariants.{NamesBinary}
 use Rattle.statement_forms.specs.declared.form.Form.{Form}
 use Rattle.statement_forms.specs.declared.form.Form.TheVariants.{Select}

@@ -1,6 +1,6 @@
 -- The first four cells of a row.
 use Rattle.std.proofs.Common.{◌≡◌, ◌<◌, ◌≤◌, List, [], ◌∷◌, length, get_or, None, refl, arith}
-use Rattle.sql_cells.specs.Literal.{Cell}
+use Rattle.plain_data.specs.Cell.{Cell}
 use Rattle.dumper_cli.specs.Columns.{described, column_from}
 
 pub too_short : (cells : List Cell) → length cells < 4 → column_from cells ≡ None

@@ -3,7 +3,7 @@ use Rattle.std.proofs.Common.{◌≤◌, ℕ, List, [], ◌∷◌, ◌++◌, ref
 use Rattle.link_traits.specs.declared.link.Link.{Ghosts as LinkGhosts}
 use Rattle.link_traits.specs.declared.folder.Shelf.{Ghosts as ShelfGhosts}
 use Rattle.my_session.specs.Session.{SessionView}
-use Rattle.sql_cells.specs.Literal.{Cell}
+use Rattle.plain_data.specs.Cell.{Cell}
 use Rattle.dumper_cli.specs.Next.{RowAdded, RowsEnd, Copied, Broke}
 use Rattle.dumper_cli.specs.Run.{Start, Reached}
 use Rattle.dumper_cli.specs.Stage.{awaits_rows}

@@ -9,13 +9,14 @@ use Rattle.wire_forms.specs.declared.greeting.Greeting.{Greeting}
 use Rattle.wire_forms.specs.declared.switch.Switch.{Switch}
 use Rattle.wire_forms.specs.Packet.{packets}
 use Rattle.my_session.specs.Login.{password_answer, switch_answer}
-use Rattle.my_session.specs.Statements.{command_payload, query_payload}
+use Rattle.honest_server.specs.Exchange.{query_payload}
+use Rattle.my_session.specs.Statements.{command_payload}
 use Rattle.my_session.specs.Wire.{Wire}
 use Rattle.wire_forms.specs.Reading.{Reading, Further, definition, row, end, refused, garbled, columns_counted, reading_after, further_of}
 use Rattle.wire_forms.specs.Reply.{reply_of}
 use Rattle.wire_forms.specs.declared.reply.Reply.{Reply}
 use Rattle.wire_forms.specs.declared.reply.Reply.TheVariants.{Done, Refused, Columns as ColumnsReply}
-use Rattle.sql_cells.specs.Literal.{Cell}
+use Rattle.plain_data.specs.Cell.{Cell}
 use Rattle.statement_forms.specs.Text.{query_text}
 use Rattle.statement_forms.specs.declared.command.Command.TheVariants.{SetUp, NamesBinary}
 use Rattle.statement_forms.specs.declared.query.Query.TheVariants.{Columns as ColumnsQuery, Rows}

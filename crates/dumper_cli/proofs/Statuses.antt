@@ -1,7 +1,7 @@
 -- The exit status of a dump, by its answer.
 use Rattle.std.proofs.Common.{◌≡◌, ℕ, List, [], ◌∷◌, length, Result, Ok, Err, OnOk, OnErr, IfErr, inl, inr, refl, ap, arith}
 use Rattle.std.proofs.lemmas.List.Sorted.{length_permutation}
-use Rattle.link_traits.specs.Contents.{File as FolderFile, names}
+use Rattle.link_traits.specs.Contents.{File as FolderFile, file_names}
 use Rattle.link_traits.specs.Site.{SiteTold}
 use Rattle.my_session.specs.declared.fault.SessionFault.{SessionFault}
 use Rattle.my_session.specs.declared.fault.SessionFault.TheVariants.{Link, Refused, Garbled, NotProtocol10, PluginUnsupported, TooLong, StreamTooLong, OutOfMemory}
@@ -60,8 +60,8 @@ other_said asked old new tells (Err (Session fault)) said e t = said t
 
 least_of_none : (name : List ℕ) (files : List FolderFile) → files ≡ [] → IsLeast name files → ⊥
 least_of_none name files none least =
-    let same = length_permutation (name ∷ least.others) (names files) least.listed.same in
-    let short : length (names files) ≡ 0 = (let gone = none in cc) in
+    let same = length_permutation (name ∷ least.others) (file_names files) least.listed.same in
+    let short : length (file_names files) ≡ 0 = (let gone = none in cc) in
     absurd (omega arith)
 
 module _ (asked : Asked) (site_tells : Type 0) (site : SiteTold) (site_rose folder_tells : Type 0) (contents : List FolderFile) (folder_rose : Type 0) where

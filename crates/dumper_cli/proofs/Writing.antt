@@ -6,7 +6,7 @@ use Rattle.link_traits.specs.Contents.{File}
 use Rattle.link_traits.specs.Folder.{told_after_append, files_after_finish}
 use Rattle.link_traits.specs.declared.folder.Shelf.{Ghosts}
 use Rattle.plain_data.specs.Buffer.{BufferView}
-use Rattle.sql_cells.specs.Literal.{Cell}
+use Rattle.plain_data.specs.Cell.{Cell}
 use Rattle.dumper_cli.specs.DataFile.{FileText, row_text, text_with_row, first_row, rows_text, files_of, table_files, file_name}
 use Rattle.dumper_cli.specs.Writing.{Holds, HoldsRows, IsWriting, KeepsFile}
 use Rattle.dumper_cli.specs.declared.column.Column.{Column}

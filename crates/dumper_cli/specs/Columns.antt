@@ -4,7 +4,8 @@ use Rattle.std.specs.List.{list_any}
 use Rattle.std.specs.Str.Lossy.{utf8_valid_len}
 use Rattle.honest_server.specs.Answer.{says_generated}
 use Rattle.honest_server.specs.Columns.{is_number_type}
-use Rattle.sql_cells.specs.Literal.{Cell, has_literal}
+use Rattle.plain_data.specs.Cell.{Cell}
+use Rattle.sql_cells.specs.Literal.{has_literal}
 use Rattle.sql_cells.specs.declared.cell_kind.CellKind.{CellKind}
 use Rattle.sql_cells.specs.declared.cell_kind.CellKind.TheVariants.{Number, Text}
 use Rattle.dumper_cli.specs.declared.column.Column.{Column}

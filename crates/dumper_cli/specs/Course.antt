@@ -7,12 +7,13 @@ use Rattle.wire_forms.specs.Packet.{packets}
 use Rattle.my_session.specs.Awaited.{Awaited, fault_at}
 use Rattle.my_session.specs.Halt.{Answered, OutOfOrder, IsFull}
 use Rattle.my_session.specs.Login.{password_answer, switch_answer}
-use Rattle.my_session.specs.Statements.{command_payload, query_payload}
+use Rattle.honest_server.specs.Exchange.{query_payload}
+use Rattle.my_session.specs.Statements.{command_payload}
 use Rattle.my_session.specs.Wire.{Wire, Hears, after_sent, within}
 use Rattle.my_session.specs.declared.fault.SessionFault.{SessionFault}
 use Rattle.my_session.specs.declared.fault.SessionFault.TheVariants.{Garbled, TooLong, StreamTooLong}
 use Rattle.my_session.specs.declared.limits.TheConstants.{MESSAGE_LIMIT}
-use Rattle.sql_cells.specs.Literal.{Cell}
+use Rattle.plain_data.specs.Cell.{Cell}
 use Rattle.statement_forms.specs.Text.{query_text}
 use Rattle.statement_forms.specs.declared.command.Command.TheVariants.{SetUp, NamesBinary}
 use Rattle.statement_forms.specs.declared.query.Query.TheVariants.{Columns, Rows}

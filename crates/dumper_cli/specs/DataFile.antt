@@ -1,7 +1,8 @@
 -- The data file of a table's rows.
 use Rattle.std.specs.Prelude.{ℕ, ◌+◌, nat_le, if◌then◌else◌, List, [], ◌∷◌, ◌++◌, length, fold, map, codes}
 use Rattle.link_traits.specs.Contents.{File}
-use Rattle.sql_cells.specs.Literal.{Cell, literal}
+use Rattle.plain_data.specs.Cell.{Cell}
+use Rattle.sql_cells.specs.Literal.{literal}
 use Rattle.sql_cells.specs.Name.{quoted_name}
 use Rattle.dumper_cli.specs.declared.column.Column.{Column}
 use Rattle.dumper_cli.specs.declared.data_file.TheConstants.{PREAMBLE, STATEMENT_SIZE}

@@ -6,7 +6,7 @@ use Rattle.link_traits.specs.declared.folder.Shelf.{Ghosts as ShelfGhosts}
 use Rattle.my_session.specs.Session.{SessionView}
 use Rattle.my_session.specs.Wire.{IsOnward}
 use Rattle.wire_forms.specs.Reading.{idle}
-use Rattle.sql_cells.specs.Literal.{Cell}
+use Rattle.plain_data.specs.Cell.{Cell}
 use Rattle.statement_forms.specs.declared.form.Form.TheVariants.{Select}
 use Rattle.dumper_cli.specs.Run.{Start, Reached, SaidFront, Halted}
 use Rattle.dumper_cli.specs.Stage.{awaits_columns, asks_rows, awaits_rows, is_over}

@@ -3,7 +3,7 @@ use Rattle.std.specs.Prelude.{ℕ, ◌≡◌, ◌⊎◌, List, []}
 use Rattle.link_traits.specs.Contents.{File as FolderFile}
 use Rattle.link_traits.specs.Site.{SiteTold}
 use Rattle.my_session.specs.declared.fault.SessionFault.{SessionFault}
-use Rattle.sql_cells.specs.Literal.{Cell}
+use Rattle.plain_data.specs.Cell.{Cell}
 use Rattle.dumper_cli.specs.Course.{IsWhole, EndsWith}
 use Rattle.dumper_cli.specs.Outside.{next_wire}
 use Rattle.dumper_cli.specs.Status.{session_status}

@@ -6,7 +6,7 @@ use Rattle.link_traits.specs.Site.{Aim, SiteTold, next_of, told_after_connect, t
 use Rattle.my_session.specs.Wire.{Wire}
 use Rattle.my_session.specs.declared.fault.SessionFault.TheVariants.{Link, OutOfMemory}
 use Rattle.my_session.specs.declared.session.TheConstants.{QUIT}
-use Rattle.sql_cells.specs.Literal.{Cell}
+use Rattle.plain_data.specs.Cell.{Cell}
 use Rattle.dumper_cli.specs.Course.{IsWhole, EndsWith, AreAll}
 use Rattle.dumper_cli.specs.DataFile.{table_files}
 use Rattle.dumper_cli.specs.Run.{SaidFront}

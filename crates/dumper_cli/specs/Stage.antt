@@ -9,12 +9,13 @@ use Rattle.wire_forms.specs.declared.greeting.Greeting.{Greeting}
 use Rattle.wire_forms.specs.declared.switch.Switch.{Switch}
 use Rattle.my_session.specs.Awaited.{Awaited, greeting, decision, done, count, further}
 use Rattle.my_session.specs.Login.{password_answer, switch_answer}
-use Rattle.my_session.specs.Statements.{command_payload, query_payload}
+use Rattle.honest_server.specs.Exchange.{query_payload}
+use Rattle.my_session.specs.Statements.{command_payload}
 use Rattle.wire_forms.specs.Reading.{Reading, Further, definition, row, end, refused, garbled, columns_counted, further_of, reading_after}
 use Rattle.wire_forms.specs.Reply.{reply_of}
 use Rattle.wire_forms.specs.declared.reply.Reply.{Reply}
 use Rattle.wire_forms.specs.declared.reply.Reply.TheVariants.{Done, Refused, Columns}
-use Rattle.sql_cells.specs.Literal.{Cell}
+use Rattle.plain_data.specs.Cell.{Cell}
 use Rattle.statement_forms.specs.Text.{query_text}
 use Rattle.statement_forms.specs.declared.command.Command.TheVariants.{SetUp, NamesBinary}
 use Rattle.statement_forms.specs.declared.form.Form.TheVariants.{Connect, Set, Select}

@@ -4,7 +4,7 @@ use Rattle.link_traits.specs.Cause.{Rose}
 use Rattle.link_traits.specs.declared.folder.Shelf.{Ghosts}
 use Rattle.my_session.specs.declared.fault.SessionFault.{SessionFault}
 use Rattle.my_session.specs.declared.fault.SessionFault.TheVariants.{Garbled, OutOfMemory}
-use Rattle.sql_cells.specs.Literal.{Cell}
+use Rattle.plain_data.specs.Cell.{Cell}
 use Rattle.dumper_cli.specs.Columns.{column_from, is_row_of}
 use Rattle.dumper_cli.specs.Writing.{IsWriting}
 use Rattle.dumper_cli.specs.declared.column.Column.{Column}

@@ -2,7 +2,7 @@
 use Rattle.std.specs.Prelude.{ℕ, ◌==◌, ◌&&◌, ◌||◌, not, nat_le, bytes_eq, Bool, true, false, List, [], ◌∷◌, length, Option, Some, None, codes}
 use Rattle.std.specs.Option.{option_or}
 use Rattle.std.specs.List.{list_all}
-use Rattle.sql_cells.specs.Number.{is_digit}
+use Rattle.plain_data.specs.Byte.{is_digit}
 
 -- the account and its password, the schema and the table that are named, and the folder's path
 pub record Asked : Type 0 where

@@ -1,13 +1,14 @@
 -- A data file that is being written.
 use Rattle.std.specs.Prelude.{◌≡◌, ◌≤◌, ◌↔◌, ℕ, true, false, List, [], ◌∷◌, ◌++◌, length, map}
 use Rattle.link_traits.specs.declared.folder.Shelf.{Ghosts}
-use Rattle.sql_cells.specs.Literal.{Cell}
+use Rattle.plain_data.specs.Cell.{Cell}
 use Rattle.dumper_cli.specs.DataFile.{FileText, row_text, insert_head, rows_text, file_name}
 use Rattle.dumper_cli.specs.declared.column.Column.{Column}
 use Rattle.dumper_cli.specs.declared.data_file.DataFile.{DataFile}
 
 -- the file has this text: its front was appended to the shelf, and what is left of it waits
-pub record Holds {S : Type 0} (of : Ghosts S) (text : FileText) (file : DataFile S of) : Type 0 where
+pub record Holds {S : Type 0} (of : Ghosts S) (text : FileText)
+    (file : DataFile S of) : Type 0 where
   pub begun : file.begun ≡ true
   pub size : file.size ≡ text.size
   pub front : List ℕ

@@ -98,7 +98,8 @@ fn says_generated(extra: &[u8]) -> bool
 // The text that the bytes spell, where they are UTF-8.
 #[tactic(auto, using(crate::proofs::Utf8::valid_whole))]
 fn text_of(bytes: &[u8]) -> Option<&str>
-    ensures { MatchOption result (is_utf8 bytes.now ≡ false) (λ text. (is_utf8 bytes.now ≡ true) × (text.now ≡ bytes.now)) }
+    ensures { MatchOption result (is_utf8 bytes.now ≡ false)
+        (λ text. (is_utf8 bytes.now ≡ true) × (text.now ≡ bytes.now)) }
 {
     match str::from_utf8(bytes) {
         Ok(text) => Some(text),
@@ -114,7 +115,8 @@ fn described(
     column_type: Option<&[u8]>,
     extra: Option<&[u8]>,
 ) -> Result<Option<Column>, OutOfMemory>
-    ensures { IfOk result (λ found. found ≡ described (option_copied name.entry) (option_copied data_type.entry) (option_copied column_type.entry) (option_copied extra.entry)) }
+    ensures { IfOk result (λ found. found ≡ described (option_copied name.entry) (option_copied
+        data_type.entry) (option_copied column_type.entry) (option_copied extra.entry)) }
 {
     let (Some(name), Some(data_type), Some(_), Some(extra)) = (name, data_type, column_type, extra)
     else {

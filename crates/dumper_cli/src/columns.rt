@@ -21,8 +21,16 @@ fn ask_columns<L: Link>(session: &mut Session<L>, words: &Words<'_>) -> Result<(
 
     ensures keeps { Keeps L.Link session.old session.new }
     ensures rows { OnOk result (HasPendingRows session.new) }
-    ensures ok { OnOk result ((start : _) → Reached L.Link (asked_by words.now) (asks_columns session.old.peer.ends) start session.old → Reached L.Link (asked_by words.now) (awaits_columns session.new.pending.reading []) start session.new) }
-    ensures err { IfErr result (λ fault. (start : _) → Reached L.Link (asked_by words.now) (asks_columns session.old.peer.ends) start session.old → Halted L.Link (asked_by words.now) start session.new.link fault) }
+    ensures ok { OnOk result
+        ((start : _) → Reached L.Link (asked_by words.now)
+        (asks_columns session.old.peer.ends) start session.old →
+        Reached L.Link (asked_by words.now)
+        (awaits_columns session.new.pending.reading []) start session.new) }
+    ensures err { IfErr result
+        (λ fault. (start : _) →
+        Reached L.Link (asked_by words.now)
+        (asks_columns session.old.peer.ends) start session.old →
+        Halted L.Link (asked_by words.now) start session.new.link fault) }
 {
     let schema = Part::of(words.schema.as_slice());
     let table = Part::of(words.table.as_slice());
@@ -60,8 +68,12 @@ fn next_column<L: Link>(
     requires rows { HasPendingRows session.old }
 
     ensures keeps { Keeps L.Link session.old session.new }
-    ensures ok { IfOk result (λ goes_on. NextColumn L.Link goes_on columns.old session.old columns.new session.new) }
-    ensures err { IfErr result (λ fault. (asked start : _) → Reached L.Link asked (awaits_columns session.old.pending.reading columns.old) start session.old → Halted L.Link asked start session.new.link fault) }
+    ensures ok { IfOk result
+        (λ goes_on. NextColumn L.Link goes_on columns.old session.old columns.new session.new) }
+    ensures err { IfErr result
+        (λ fault. (asked start : _) →
+        Reached L.Link asked (awaits_columns session.old.pending.reading columns.old) start
+        session.old → Halted L.Link asked start session.new.link fault) }
 {
     let place = session.place();
     match session.next_row() {
@@ -90,8 +102,17 @@ pub fn read_columns<L: Link>(
     ensures keeps { Keeps L.Link session.old session.new }
     ensures ready { IfOk result (λ _. IsReady session.new) }
     ensures some { IfOk result (λ columns. 0 < length columns) }
-    ensures ok { IfOk result (λ columns. (start : _) → Reached L.Link (asked_by words.now) (asks_columns session.old.peer.ends) start session.old → Reached L.Link (asked_by words.now) (asks_rows session.new.peer.ends columns) start session.new) }
-    ensures err { IfErr result (λ fault. (start : _) → Reached L.Link (asked_by words.now) (asks_columns session.old.peer.ends) start session.old → Halted L.Link (asked_by words.now) start session.new.link fault) }
+    ensures ok { IfOk result
+        (λ columns. (start : _) →
+        Reached L.Link (asked_by words.now)
+        (asks_columns session.old.peer.ends) start session.old →
+        Reached L.Link (asked_by words.now)
+        (asks_rows session.new.peer.ends columns) start session.new) }
+    ensures err { IfErr result
+        (λ fault. (start : _) →
+        Reached L.Link (asked_by words.now)
+        (asks_columns session.old.peer.ends) start session.old →
+        Halted L.Link (asked_by words.now) start session.new.link fault) }
 {
     if let Err(fault) = ask_columns(session, words) {
         return Err(fault);

@@ -25,8 +25,14 @@ fn set_names<L: Link>(session: &mut Session<L>) -> Result<(), SessionFault>
 
     ensures keeps { Keeps L.Link session.old session.new }
     ensures ready { OnOk result (IsReady session.new) }
-    ensures ok { OnOk result ((asked start : _) → Reached L.Link asked (sends_names session.old.peer.ends) start session.old → Reached L.Link asked (asks_columns session.new.peer.ends) start session.new) }
-    ensures err { IfErr result (λ fault. (asked start : _) → Reached L.Link asked (sends_names session.old.peer.ends) start session.old → Halted L.Link asked start session.new.link fault) }
+    ensures ok { OnOk result
+        ((asked start : _) → Reached L.Link asked
+        (sends_names session.old.peer.ends) start session.old →
+        Reached L.Link asked (asks_columns session.new.peer.ends) start session.new) }
+    ensures err { IfErr result
+        (λ fault. (asked start : _) →
+        Reached L.Link asked (sends_names session.old.peer.ends) start session.old →
+        Halted L.Link asked start session.new.link fault) }
 {
     session.run(&Command::NamesBinary)
 }
@@ -41,8 +47,17 @@ fn ask<L: Link>(
 
     ensures keeps { Keeps L.Link session.old session.new }
     ensures rows { IfOk result (λ _. HasPendingRows session.new) }
-    ensures ok { IfOk result (λ columns. (start : _) → Reached L.Link (asked_by words.now) (sends_names session.old.peer.ends) start session.old → Reached L.Link (asked_by words.now) (awaits_rows session.new.pending.reading columns []) start session.new) }
-    ensures err { IfErr result (λ fault. (start : _) → Reached L.Link (asked_by words.now) (sends_names session.old.peer.ends) start session.old → Halted L.Link (asked_by words.now) start session.new.link fault) }
+    ensures ok { IfOk result
+        (λ columns. (start : _) →
+        Reached L.Link (asked_by words.now)
+        (sends_names session.old.peer.ends) start session.old →
+        Reached L.Link (asked_by words.now)
+        (awaits_rows session.new.pending.reading columns []) start session.new) }
+    ensures err { IfErr result
+        (λ fault. (start : _) →
+        Reached L.Link (asked_by words.now)
+        (sends_names session.old.peer.ends) start session.old →
+        Halted L.Link (asked_by words.now) start session.new.link fault) }
 {
     if let Err(fault) = set_names(session) {
         return Err(fault);
@@ -73,8 +88,12 @@ fn copy_table<L: Link, S: Shelf>(
     ensures tells { S.tells shelf ↔ S.tells result.0 }
     ensures later { S.faults shelf ≤ S.faults result.0 }
     ensures ready { OnOk result.1 (IsReady session.new) }
-    ensures ok { OnOk result.1 (Tabled L.Link S.Shelf (asked_by words.now).schema (asked_by words.now).table columns.now session.old shelf session.new result.0) }
-    ensures err { IfErr result.1 (λ fault. (asked start : _) → Reached L.Link asked (awaits_rows session.old.pending.reading columns.now []) start session.old → Broke L.Link S.Shelf asked start shelf session.new.link result.0 fault) }
+    ensures ok { OnOk result.1 (Tabled L.Link S.Shelf (asked_by words.now).schema
+        (asked_by words.now).table columns.now session.old shelf session.new result.0) }
+    ensures err { IfErr result.1
+        (λ fault. (asked start : _) →
+        Reached L.Link asked (awaits_rows session.old.pending.reading columns.now []) start
+        session.old → Broke L.Link S.Shelf asked start shelf session.new.link result.0 fault) }
     ensures none_made { OnErr result.1 (S.tells shelf → (S.told result.0).made ≡ []) }
 {
     let mut file = match DataFile::new(alloc, shelf, words.schema, words.table, columns) {
@@ -109,8 +128,13 @@ fn converse<L: Link, S: Shelf>(
     ensures tells { S.tells shelf ↔ S.tells result.0 }
     ensures later { S.faults shelf ≤ S.faults result.0 }
     ensures ready { OnOk result.1 (IsReady session.new) }
-    ensures ok { OnOk result.1 (Conversed L.Link S.Shelf (asked_by words.now) session.old shelf session.new result.0) }
-    ensures err { IfErr result.1 (λ fault. (start : _) → Reached L.Link (asked_by words.now) (sends_names session.old.peer.ends) start session.old → Broke L.Link S.Shelf (asked_by words.now) start shelf session.new.link result.0 fault) }
+    ensures ok { OnOk result.1
+        (Conversed L.Link S.Shelf (asked_by words.now) session.old shelf session.new result.0) }
+    ensures err { IfErr result.1
+        (λ fault. (start : _) →
+        Reached L.Link (asked_by words.now)
+        (sends_names session.old.peer.ends) start session.old →
+        Broke L.Link S.Shelf (asked_by words.now) start shelf session.new.link result.0 fault) }
     ensures none_made { OnErr result.1 (S.tells shelf → (S.told result.0).made ≡ []) }
 {
     let columns = match ask(session, alloc, words) {
@@ -144,8 +168,10 @@ pub fn dump_over_link<L: Link, S: Shelf>(
     ensures link_later { L.faults link ≤ L.faults result.link }
     ensures tells { S.tells shelf ↔ S.tells result.shelf }
     ensures later { S.faults shelf ≤ S.faults result.shelf }
-    ensures ok { OnOk result.result (LinkDumped L.Link S.Shelf (asked_by words.now) link shelf result.link result.shelf) }
-    ensures err { IfErr result.result (λ fault. LinkStopped L.Link S.Shelf (asked_by words.now) link shelf result.link result.shelf fault) }
+    ensures ok { OnOk result.result
+        (LinkDumped L.Link S.Shelf (asked_by words.now) link shelf result.link result.shelf) }
+    ensures err { IfErr result.result (λ fault. LinkStopped L.Link S.Shelf
+        (asked_by words.now) link shelf result.link result.shelf fault) }
     ensures none_made { OnErr result.result (S.tells shelf → (S.told result.shelf).made ≡ []) }
 {
     let login = Session::login(alloc, link, words.user.as_slice(), words.password);

@@ -31,8 +31,16 @@ pub fn ask_rows<L: Link>(
 
     ensures keeps { Keeps L.Link session.old session.new }
     ensures rows { OnOk result (HasPendingRows session.new) }
-    ensures ok { OnOk result ((start : _) → Reached L.Link (asked_by words.now) (asks_rows session.old.peer.ends columns.now) start session.old → Reached L.Link (asked_by words.now) (awaits_rows session.new.pending.reading columns.now []) start session.new) }
-    ensures err { IfErr result (λ fault. (start : _) → Reached L.Link (asked_by words.now) (asks_rows session.old.peer.ends columns.now) start session.old → Halted L.Link (asked_by words.now) start session.new.link fault) }
+    ensures ok { OnOk result
+        ((start : _) → Reached L.Link (asked_by words.now)
+        (asks_rows session.old.peer.ends columns.now) start session.old →
+        Reached L.Link (asked_by words.now)
+        (awaits_rows session.new.pending.reading columns.now []) start session.new) }
+    ensures err { IfErr result
+        (λ fault. (start : _) →
+        Reached L.Link (asked_by words.now)
+        (asks_rows session.old.peer.ends columns.now) start session.old →
+        Halted L.Link (asked_by words.now) start session.new.link fault) }
 {
     let Ok(columns) = names_of(alloc, columns) else {
         return Err(SessionFault::OutOfMemory);
@@ -60,7 +68,8 @@ fn write_row<S: Shelf>(
 ) -> Result<(), DumpFault>
     ensures keeps { KeepsFile S.Shelf file.old file.new }
     ensures ok { OnOk result (AddsRow S.Shelf columns.now (row_cells row.now) file.old file.new) }
-    ensures err { IfErr result (λ fault. Unwritten S.Shelf columns.now (row_cells row.now) row.now.place file.old file.new fault) }
+    ensures err { IfErr result (λ fault. Unwritten S.Shelf columns.now
+        (row_cells row.now) row.now.place file.old file.new fault) }
 {
     match file.row(columns, row) {
         Ok(()) => Ok(()),
@@ -80,8 +89,13 @@ fn copy_row<L: Link, S: Shelf>(
 
     ensures keeps { Keeps L.Link session.old session.new }
     ensures keeps_file { KeepsFile S.Shelf file.old file.new }
-    ensures ok { IfOk result (λ goes_on. CopiesRow L.Link S.Shelf goes_on columns.now session.old file.old session.new file.new) }
-    ensures err { IfErr result (λ fault. (asked rows start : _) → Reached L.Link asked (awaits_rows session.old.pending.reading columns.now rows) start session.old → Broke L.Link S.Shelf asked start file.old.shelf session.new.link file.new.shelf fault) }
+    ensures ok { IfOk result (λ goes_on.
+        CopiesRow L.Link S.Shelf goes_on columns.now session.old file.old session.new file.new) }
+    ensures err { IfErr result
+        (λ fault. (asked rows start : _) →
+        Reached L.Link asked (awaits_rows session.old.pending.reading columns.now rows) start
+        session.old → Broke L.Link S.Shelf asked start file.old.shelf session.new.link
+        file.new.shelf fault) }
 {
     match session.next_row() {
         Ok(Some(row)) => match write_row(columns, &row, file) {
@@ -104,8 +118,13 @@ pub fn copy_rows<L: Link, S: Shelf>(
     ensures keeps { Keeps L.Link session.old session.new }
     ensures keeps_file { KeepsFile S.Shelf file.old file.new }
     ensures ready { OnOk result (IsReady session.new) }
-    ensures ok { OnOk result (Copied L.Link S.Shelf columns.now session.old file.old session.new file.new) }
-    ensures err { IfErr result (λ fault. (asked start : _) → Reached L.Link asked (awaits_rows session.old.pending.reading columns.now []) start session.old → Broke L.Link S.Shelf asked start file.old.shelf session.new.link file.new.shelf fault) }
+    ensures ok { OnOk result
+        (Copied L.Link S.Shelf columns.now session.old file.old session.new file.new) }
+    ensures err { IfErr result
+        (λ fault. (asked start : _) →
+        Reached L.Link asked (awaits_rows session.old.pending.reading columns.now []) start
+        session.old → Broke L.Link S.Shelf asked start file.old.shelf session.new.link
+        file.new.shelf fault) }
 {
     'rows: loop {
         let goes_on = match copy_row(session, columns, file) {

@@ -81,7 +81,8 @@ fn head_of(alloc: Global, table: &Name, columns: &[Column]) -> Result<Buffer, Ou
 // Spells a row.
 fn spell(columns: &[Column], row: &Row<'_>, out: &mut Buffer) -> Result<(), WriteFault>
     ensures ok { OnOk result (out.new.bytes ≡ row_text columns.now (row_cells row.now)) }
-    ensures mismatch { result ≡ Err WriteFault.Mismatch ↔ is_row_of columns.now (row_cells row.now) ≡ false }
+    ensures mismatch { result ≡ Err WriteFault.Mismatch
+        ↔ is_row_of columns.now (row_cells row.now) ≡ false }
     ensures not_file { result ≡ Err WriteFault.File → ⊥ }
 {
     out.clear();
@@ -97,8 +98,10 @@ fn finish<S: Shelf>(shelf: &mut S, bytes: &[u8]) -> Result<(), FolderFailed>
     requires { S.is_begun shelf.old ≡ true }
 
     ensures tells { S.tells shelf.old ↔ S.tells shelf.new }
-    ensures ok { OnOk result (S.tells shelf.old → (S.told shelf.new).made ≡ files_after_finish (told_after_append (S.told shelf.old) bytes.now)) }
-    ensures err { OnErr result (S.tells shelf.old → (S.told shelf.new).made ≡ (S.told shelf.old).made) }
+    ensures ok { OnOk result (S.tells shelf.old → (S.told shelf.new).made
+        ≡ files_after_finish (told_after_append (S.told shelf.old) bytes.now)) }
+    ensures err { OnErr result
+        (S.tells shelf.old → (S.told shelf.new).made ≡ (S.told shelf.old).made) }
     ensures cause { HasCause (S.faults shelf.old) (S.faults shelf.new) result }
 {
     shelf.append(bytes)?;
@@ -106,7 +109,7 @@ fn finish<S: Shelf>(shelf: &mut S, bytes: &[u8]) -> Result<(), FolderFailed>
 }
 
 impl<S: Shelf> DataFile<S> {
-    ghost use Rattle.sql_cells.specs.Literal.{Cell};
+    ghost use Rattle.plain_data.specs.Cell.{Cell};
     ghost use Rattle.dumper_cli.specs.Writing.{Holds, HoldsRows, IsWriting, KeepsFile, IsSame};
 
     /// The file of a table's rows before there is one. It is refused only for want of memory, and gives
@@ -122,7 +125,8 @@ impl<S: Shelf> DataFile<S> {
         requires none_made { S.tells shelf → (S.told shelf).made ≡ [] }
 
         ensures shelf { IfOk result (λ file. file.shelf ≡ shelf) }
-        ensures ok { IfOk result (λ file. IsWriting S.Shelf schema.now table.now columns.now [] file) }
+        ensures ok { IfOk result
+            (λ file. IsWriting S.Shelf schema.now table.now columns.now [] file) }
         ensures err { IfErr result (λ refused. refused.0 ≡ shelf) }
     {
         let Ok(name) = name_of(alloc, schema, table) else {
@@ -165,10 +169,13 @@ impl<S: Shelf> DataFile<S> {
 
         ensures kept { KeepsFile S.Shelf self.old self.new }
         ensures begun { OnOk result (self.new.begun ≡ true) }
-        ensures ok { OnOk result (self.old.waiting.bytes ≡ [] → Holds S.Shelf (first_row self.old.head.bytes self.old.spelled.bytes) self.new) }
-        ensures same { IfErr result (λ fault. (fault ≡ WriteFault.File → ⊥) → IsSame S.Shelf self.old self.new) }
+        ensures ok { OnOk result (self.old.waiting.bytes ≡ [] →
+            Holds S.Shelf (first_row self.old.head.bytes self.old.spelled.bytes) self.new) }
+        ensures same { IfErr result
+            (λ fault. (fault ≡ WriteFault.File → ⊥) → IsSame S.Shelf self.old self.new) }
         ensures mismatch { result ≡ Err WriteFault.Mismatch → ⊥ }
-        ensures cause { result ≡ Err WriteFault.File → Rose (S.faults self.old.shelf) (S.faults self.new.shelf) }
+        ensures cause { result ≡ Err WriteFault.File →
+            Rose (S.faults self.old.shelf) (S.faults self.new.shelf) }
     {
         let Ok(size) = statement_into(
             PREAMBLE,
@@ -190,7 +197,8 @@ impl<S: Shelf> DataFile<S> {
     fn go_on(&mut self) -> Result<(), WriteFault>
         ensures kept { KeepsFile S.Shelf self.old self.new }
         ensures begun { self.new.begun ≡ self.old.begun }
-        ensures ok { OnOk result ((text : FileText) → Holds S.Shelf text self.old → Holds S.Shelf (text_with_row self.old.head.bytes text self.old.spelled.bytes) self.new) }
+        ensures ok { OnOk result ((text : FileText) → Holds S.Shelf text self.old → Holds S.Shelf
+            (text_with_row self.old.head.bytes text self.old.spelled.bytes) self.new) }
         ensures same { OnErr result (IsSame S.Shelf self.old self.new) }
         ensures out_of_memory { IfErr result (λ fault. fault ≡ WriteFault.OutOfMemory) }
     {
@@ -211,10 +219,13 @@ impl<S: Shelf> DataFile<S> {
     fn add(&mut self) -> Result<(), WriteFault>
         ensures kept { KeepsFile S.Shelf self.old self.new }
         ensures begun { OnOk result (self.new.begun ≡ true) }
-        ensures ok { OnOk result ((rows : List (List ℕ)) → HoldsRows S.Shelf rows self.old → HoldsRows S.Shelf (rows ++ self.old.spelled.bytes ∷ []) self.new) }
-        ensures same { IfErr result (λ fault. (fault ≡ WriteFault.File → ⊥) → IsSame S.Shelf self.old self.new) }
+        ensures ok { OnOk result ((rows : List (List ℕ)) → HoldsRows S.Shelf rows self.old →
+            HoldsRows S.Shelf (rows ++ self.old.spelled.bytes ∷ []) self.new) }
+        ensures same { IfErr result
+            (λ fault. (fault ≡ WriteFault.File → ⊥) → IsSame S.Shelf self.old self.new) }
         ensures mismatch { result ≡ Err WriteFault.Mismatch → ⊥ }
-        ensures cause { result ≡ Err WriteFault.File → Rose (S.faults self.old.shelf) (S.faults self.new.shelf) }
+        ensures cause { result ≡ Err WriteFault.File →
+            Rose (S.faults self.old.shelf) (S.faults self.new.shelf) }
     {
         if self.begun {
             self.go_on()
@@ -228,10 +239,12 @@ impl<S: Shelf> DataFile<S> {
         requires { self.old.begun ≡ true }
 
         ensures kept { KeepsFile S.Shelf self.old self.new }
-        ensures ok { OnOk result ((text : FileText) → Holds S.Shelf text self.old → Holds S.Shelf text self.new) }
+        ensures ok { OnOk result
+            ((text : FileText) → Holds S.Shelf text self.old → Holds S.Shelf text self.new) }
         ensures waits { OnOk result (length self.new.waiting.bytes < WAITING_SIZE) }
         ensures file { IfErr result (λ fault. fault ≡ WriteFault.File) }
-        ensures cause { result ≡ Err WriteFault.File → Rose (S.faults self.old.shelf) (S.faults self.new.shelf) }
+        ensures cause { result ≡ Err WriteFault.File →
+            Rose (S.faults self.old.shelf) (S.faults self.new.shelf) }
     {
         if self.waiting.len() < WAITING_SIZE {
             return Ok(());
@@ -249,11 +262,18 @@ impl<S: Shelf> DataFile<S> {
     /// of the file no more is to be written to it.
     pub fn row(&mut self, columns: &[Column], row: &Row<'_>) -> Result<(), WriteFault>
         ensures kept { KeepsFile S.Shelf self.old self.new }
-        ensures ok { OnOk result ((schema table : List ℕ) (rows : List (List Cell)) → IsWriting S.Shelf schema table columns.now rows self.old → IsWriting S.Shelf schema table columns.now (rows ++ (row_cells row.now) ∷ []) self.new) }
+        ensures ok { OnOk result
+            ((schema table : List ℕ) (rows : List (List Cell)) →
+            IsWriting S.Shelf schema table columns.now rows self.old →
+            IsWriting S.Shelf schema table columns.now
+            (rows ++ (row_cells row.now) ∷ []) self.new) }
         ensures waits { OnOk result (length self.new.waiting.bytes < WAITING_SIZE) }
-        ensures same { IfErr result (λ fault. (fault ≡ WriteFault.File → ⊥) → IsSame S.Shelf self.old self.new) }
-        ensures mismatch { result ≡ Err WriteFault.Mismatch ↔ is_row_of columns.now (row_cells row.now) ≡ false }
-        ensures cause { result ≡ Err WriteFault.File → Rose (S.faults self.old.shelf) (S.faults self.new.shelf) }
+        ensures same { IfErr result
+            (λ fault. (fault ≡ WriteFault.File → ⊥) → IsSame S.Shelf self.old self.new) }
+        ensures mismatch { result ≡ Err WriteFault.Mismatch
+            ↔ is_row_of columns.now (row_cells row.now) ≡ false }
+        ensures cause { result ≡ Err WriteFault.File →
+            Rose (S.faults self.old.shelf) (S.faults self.new.shelf) }
     {
         spell(columns, row, &mut self.spelled)?;
         self.add()?;
@@ -267,10 +287,14 @@ impl<S: Shelf> DataFile<S> {
     pub fn end(self) -> (S, Result<(), WriteFault>)
         ensures tells { S.tells self.shelf ↔ S.tells result.0 }
         ensures later { S.faults self.shelf ≤ S.faults result.0 }
-        ensures ok { OnOk result.1 ((schema table : List ℕ) (columns : List Column) (rows : List (List Cell)) → IsWriting S.Shelf schema table columns rows self → S.tells self.shelf → (S.told result.0).made ≡ table_files schema table columns rows) }
+        ensures ok { OnOk result.1
+            ((schema table : List ℕ) (columns : List Column) (rows : List (List Cell)) →
+            IsWriting S.Shelf schema table columns rows self → S.tells self.shelf →
+            (S.told result.0).made ≡ table_files schema table columns rows) }
         ensures err { OnErr result.1 (S.tells self.shelf → (S.told result.0).made ≡ []) }
         ensures mismatch { result.1 ≡ Err WriteFault.Mismatch → ⊥ }
-        ensures cause { result.1 ≡ Err WriteFault.File → Rose (S.faults self.shelf) (S.faults result.0) }
+        ensures cause { result.1 ≡ Err WriteFault.File →
+            Rose (S.faults self.shelf) (S.faults result.0) }
     {
         let DataFile {
             mut shelf,

@@ -34,9 +34,16 @@ fn dump_over_site<T: Site, S: Shelf>(
     ensures aim { T.aim_of site.new ≡ T.aim_of site.old }
     ensures tells { S.tells shelf ↔ S.tells result.0 }
     ensures later { S.faults shelf ≤ S.faults result.0 }
-    ensures ok { OnOk result.1 (SiteTabled (asked_by words.now) (T.tells site.old) (Rose (T.faults site.old) (T.faults site.new)) (T.told site.old) (T.told site.new) (S.tells shelf) (S.told result.0).made) }
-    ensures err { IfErr result.1 (λ fault. EndedBy (λ name. ⊥) (asked_by words.now) (T.tells site.old) (T.told site.old) (Rose (T.faults site.old) (T.faults site.new)) (Rose (S.faults shelf) (S.faults result.0)) fault) }
-    ensures said { OnErr result.1 (T.tells site.old → SaidAtMost (asked_by words.now) (T.told site.old) (T.told site.new)) }
+    ensures ok { OnOk result.1
+        (SiteTabled (asked_by words.now) (T.tells site.old)
+        (Rose (T.faults site.old) (T.faults site.new)) (T.told site.old) (T.told site.new)
+        (S.tells shelf) (S.told result.0).made) }
+    ensures err { IfErr result.1
+        (λ fault. EndedBy (λ name. ⊥) (asked_by words.now) (T.tells site.old) (T.told site.old)
+        (Rose (T.faults site.old) (T.faults site.new))
+        (Rose (S.faults shelf) (S.faults result.0)) fault) }
+    ensures said { OnErr result.1
+        (T.tells site.old → SaidAtMost (asked_by words.now) (T.told site.old) (T.told site.new)) }
     ensures none_made { OnErr result.1 (S.tells shelf → (S.told result.0).made ≡ []) }
 {
     let link = match site.connect_sole() {
@@ -59,8 +66,10 @@ fn first_name<F: Folder>(folder: &mut F) -> Result<Option<Name>, DumpFault>
     ensures path { F.path_of folder.new ≡ F.path_of folder.old }
     ensures out { F.out folder.new ≡ F.out folder.old }
     ensures later { F.faults folder.old ≤ F.faults folder.new }
-    ensures ok { IfOk result (λ found. F.tells folder.old → MatchOption found (F.contents folder.old ≡ []) (λ name. IsLeast name (F.contents folder.old))) }
-    ensures err { IfErr result (λ fault. IsUnlisted (Rose (F.faults folder.old) (F.faults folder.new)) fault) }
+    ensures ok { IfOk result (λ found. F.tells folder.old → MatchOption found
+        (F.contents folder.old ≡ []) (λ name. IsLeast name (F.contents folder.old))) }
+    ensures err { IfErr result
+        (λ fault. IsUnlisted (Rose (F.faults folder.old) (F.faults folder.new)) fault) }
 {
     let names = match folder.list() {
         Ok(names) => names,
@@ -94,10 +103,18 @@ fn dump_into_empty<T: Site, F: Folder>(
     ensures out { F.out folder.new ≡ F.out folder.old }
     ensures path { F.path_of folder.new ≡ F.path_of folder.old }
     ensures later { F.faults folder.old ≤ F.faults folder.new }
-    ensures ok { OnOk result (Dumped (asked_by words.now) (T.tells site.old) (Rose (T.faults site.old) (T.faults site.new)) (T.told site.old) (T.told site.new) (F.tells folder.old) (F.contents folder.old) (F.contents folder.new)) }
-    ensures err { IfErr result (λ fault. EndedBy (λ name. ⊥) (asked_by words.now) (T.tells site.old) (T.told site.old) (Rose (T.faults site.old) (T.faults site.new)) (Rose (F.faults folder.old) (F.faults folder.new)) fault) }
-    ensures said { OnErr result (T.tells site.old → SaidAtMost (asked_by words.now) (T.told site.old) (T.told site.new)) }
-    ensures unchanged { OnErr result (F.tells folder.old → F.contents folder.new ≡ F.contents folder.old) }
+    ensures ok { OnOk result
+        (Dumped (asked_by words.now) (T.tells site.old)
+        (Rose (T.faults site.old) (T.faults site.new)) (T.told site.old) (T.told site.new)
+        (F.tells folder.old) (F.contents folder.old) (F.contents folder.new)) }
+    ensures err { IfErr result
+        (λ fault. EndedBy (λ name. ⊥) (asked_by words.now) (T.tells site.old) (T.told site.old)
+        (Rose (T.faults site.old) (T.faults site.new))
+        (Rose (F.faults folder.old) (F.faults folder.new)) fault) }
+    ensures said { OnErr result
+        (T.tells site.old → SaidAtMost (asked_by words.now) (T.told site.old) (T.told site.new)) }
+    ensures unchanged { OnErr result
+        (F.tells folder.old → F.contents folder.new ≡ F.contents folder.old) }
 {
     let shelf = match folder.shelf() {
         Ok(shelf) => shelf,
@@ -122,12 +139,23 @@ pub fn dump<T: Site, F: Folder>(
     ensures site_later { T.faults site.old ≤ T.faults site.new }
     ensures out { F.out folder.new ≡ F.out folder.old }
     ensures later { F.faults folder.old ≤ F.faults folder.new }
-    ensures aims { OnOk result (AimsAt (asked_by words.now) (T.aim_of site.new) (F.path_of folder.new)) }
-    ensures ok { OnOk result (Dumped (asked_by words.now) (T.tells site.old) (Rose (T.faults site.old) (T.faults site.new)) (T.told site.old) (T.told site.new) (F.tells folder.old) (F.contents folder.old) (F.contents folder.new)) }
-    ensures err { IfErr result (λ fault. EndedBy (λ name. F.tells folder.old → IsLeast name (F.contents folder.old)) (asked_by words.now) (T.tells site.old) (T.told site.old) (Rose (T.faults site.old) (T.faults site.new)) (Rose (F.faults folder.old) (F.faults folder.new)) fault) }
-    ensures empty { IfErr result (λ fault. ComesLater (F.tells folder.old → F.contents folder.old ≡ []) fault) }
-    ensures said { IfErr result (λ fault. T.tells site.old → SaidBefore (asked_by words.now) (T.told site.old) (T.told site.new) fault) }
-    ensures unchanged { OnErr result (F.tells folder.old → F.contents folder.new ≡ F.contents folder.old) }
+    ensures aims { OnOk result
+        (AimsAt (asked_by words.now) (T.aim_of site.new) (F.path_of folder.new)) }
+    ensures ok { OnOk result
+        (Dumped (asked_by words.now) (T.tells site.old)
+        (Rose (T.faults site.old) (T.faults site.new)) (T.told site.old) (T.told site.new)
+        (F.tells folder.old) (F.contents folder.old) (F.contents folder.new)) }
+    ensures err { IfErr result
+        (λ fault. EndedBy (λ name. F.tells folder.old → IsLeast name (F.contents folder.old))
+        (asked_by words.now) (T.tells site.old) (T.told site.old)
+        (Rose (T.faults site.old) (T.faults site.new))
+        (Rose (F.faults folder.old) (F.faults folder.new)) fault) }
+    ensures empty { IfErr result
+        (λ fault. ComesLater (F.tells folder.old → F.contents folder.old ≡ []) fault) }
+    ensures said { IfErr result (λ fault. T.tells site.old →
+        SaidBefore (asked_by words.now) (T.told site.old) (T.told site.new) fault) }
+    ensures unchanged { OnErr result
+        (F.tells folder.old → F.contents folder.new ≡ F.contents folder.old) }
 {
     let path = words.path;
     if folder.aim(path.as_str()).is_err() {

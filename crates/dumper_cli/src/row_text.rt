@@ -72,8 +72,10 @@ fn cell_after(
     cell: Option<&[u8]>,
     out: &mut Buffer,
 ) -> Result<(), CellFault>
-    ensures ok { OnOk result (out.new.bytes ≡ out.old.bytes ++ lead ∷ literal kind (option_copied cell.entry)) }
-    ensures not_a_number { IsErrOf result CellFault.NotANumber ↔ (has_literal kind (option_copied cell.entry) ≡ false) }
+    ensures ok { OnOk result
+        (out.new.bytes ≡ out.old.bytes ++ lead ∷ literal kind (option_copied cell.entry)) }
+    ensures not_a_number { IsErrOf result CellFault.NotANumber
+        ↔ (has_literal kind (option_copied cell.entry) ≡ false) }
 {
     let begun = byte_into(lead, out);
     cell_into(kind, cell, out)?;
@@ -83,8 +85,10 @@ fn cell_after(
 // Appends the literals of a row's cells, the first after `(` and each later one after a comma.
 // All cells are seen, also where memory runs out.
 fn cells_into(columns: &[Column], row: &Row<'_>, out: &mut Buffer) -> Result<(), RowFault>
-    ensures ok { OnOk result (out.new.bytes ≡ out.old.bytes ++ led 40 (literals columns.now (row_cells row.now))) }
-    ensures mismatch { result ≡ Err RowFault.Mismatch ↔ is_row_of columns.now (row_cells row.now) ≡ false }
+    ensures ok { OnOk result
+        (out.new.bytes ≡ out.old.bytes ++ led 40 (literals columns.now (row_cells row.now))) }
+    ensures mismatch { result ≡ Err RowFault.Mismatch
+        ↔ is_row_of columns.now (row_cells row.now) ≡ false }
 {
     let mut cells = row.cells();
     let mut lead = b'(';
@@ -113,9 +117,11 @@ fn cells_into(columns: &[Column], row: &Row<'_>, out: &mut Buffer) -> Result<(),
 /// mismatch exactly where the row isn't one of these columns; else only want of memory refuses it.
 /// After a refusal a part of it may be appended.
 pub fn row_into(columns: &[Column], row: &Row<'_>, out: &mut Buffer) -> Result<(), RowFault>
-    ensures ok { OnOk result (out.new.bytes ≡ out.old.bytes ++ row_text columns.now (row_cells row.now)) }
+    ensures ok { OnOk result
+        (out.new.bytes ≡ out.old.bytes ++ row_text columns.now (row_cells row.now)) }
     ensures is_row { OnOk result (is_row_of columns.now (row_cells row.now) ≡ true) }
-    ensures mismatch { result ≡ Err RowFault.Mismatch ↔ is_row_of columns.now (row_cells row.now) ≡ false }
+    ensures mismatch { result ≡ Err RowFault.Mismatch
+        ↔ is_row_of columns.now (row_cells row.now) ≡ false }
 {
     cells_into(columns, row, out)?;
     byte_into(b')', out).map_err(|_| RowFault::OutOfMemory)
@@ -130,7 +136,8 @@ pub fn statement_into(
     out: &mut Buffer,
 ) -> Result<usize, OutOfMemory>
     ensures size { IfOk result (λ size. size ≡ length (head.now ++ row.now)) }
-    ensures bytes { OnOk result (out.new.bytes ≡ out.old.bytes ++ (lead.now ++ head.now ++ row.now)) }
+    ensures bytes { OnOk result
+        (out.new.bytes ≡ out.old.bytes ++ (lead.now ++ head.now ++ row.now)) }
     ensures err { OnErr result (out.new.bytes ≡ out.old.bytes) }
 {
     let Some(size) = head.len().checked_add(row.len()) else {
@@ -168,7 +175,10 @@ pub fn later_row_into(
     row: &[u8],
     out: &mut Buffer,
 ) -> Result<usize, OutOfMemory>
-    ensures ok { IfOk result (λ after. text_with_row head.now (record { bytes = out.old.bytes; size = size }) row.now ≡ record { bytes = out.new.bytes; size = after }) }
+    ensures ok { IfOk result (λ after. text_with_row head.now (record {
+      bytes = out.old.bytes;
+      size = size;
+    }) row.now ≡ record { bytes = out.new.bytes; size = after }) }
     ensures err { OnErr result (out.new.bytes ≡ out.old.bytes) }
 {
     let whole = size.saturating_add(row.len()).saturating_add(2);

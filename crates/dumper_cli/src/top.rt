@@ -72,17 +72,30 @@ pub fn mydumper<R: Threads + Sync, S: Site, F: Folder, O: Sink, C: Clock>(
     ensures untouched { result ≡ 2 → (site.new ≡ site.old) × (folder.new ≡ folder.old) }
 
     // A dump that ended: the messages sent, the replies read and the folder's contents together.
-    ensures dumped { (asked : _) → asked_of words.now ≡ Some asked → result ≡ 0 → Dumped asked (S.tells site.old) (Rose (S.faults site.old) (S.faults site.new)) (S.told site.old) (S.told site.new) (F.tells folder.old) (F.contents folder.old) (F.contents folder.new) }
-    ensures aimed { (asked : _) → asked_of words.now ≡ Some asked → result ≡ 0 → AimsAt asked (S.aim_of site.new) (F.path_of folder.new) }
+    ensures dumped { (asked : _) → asked_of words.now ≡ Some asked → result ≡ 0 →
+        Dumped asked (S.tells site.old) (Rose (S.faults site.old) (S.faults site.new))
+        (S.told site.old) (S.told site.new) (F.tells folder.old) (F.contents folder.old)
+        (F.contents folder.new) }
+    ensures aimed { (asked : _) → asked_of words.now ≡ Some asked → result ≡ 0 →
+        AimsAt asked (S.aim_of site.new) (F.path_of folder.new) }
 
     // Any other status: its cause, and what stands after it.
-    ensures causes { (asked : _) → asked_of words.now ≡ Some asked → IsCaused asked (S.tells site.old) (S.told site.old) (Rose (S.faults site.old) (S.faults site.new)) (F.tells folder.old) (F.contents folder.old) (Rose (F.faults folder.old) (F.faults folder.new)) result }
+    ensures causes { (asked : _) → asked_of words.now ≡ Some asked →
+        IsCaused asked (S.tells site.old) (S.told site.old)
+        (Rose (S.faults site.old) (S.faults site.new)) (F.tells folder.old)
+        (F.contents folder.old) (Rose (F.faults folder.old) (F.faults folder.new)) result }
     // What the server sends into an empty folder has its status, but where the site or the folder
     // failed or memory ran out.
-    ensures exact { (asked : _) → asked_of words.now ≡ Some asked → IsExact asked (S.tells site.old) (S.told site.old) (Rose (S.faults site.old) (S.faults site.new)) (F.tells folder.old) (F.contents folder.old) (Rose (F.faults folder.old) (F.faults folder.new)) result }
-    ensures full { (asked : _) → asked_of words.now ≡ Some asked → RefusesFull (F.tells folder.old) (Rose (F.faults folder.old) (F.faults folder.new)) (F.contents folder.old) result }
-    ensures said { (asked : _) → asked_of words.now ≡ Some asked → (result ≡ 0 → ⊥) → S.tells site.old → SaidAtMost asked (S.told site.old) (S.told site.new) }
-    ensures unchanged { (result ≡ 0 → ⊥) → F.tells folder.old → F.contents folder.new ≡ F.contents folder.old }
+    ensures exact { (asked : _) → asked_of words.now ≡ Some asked →
+        IsExact asked (S.tells site.old) (S.told site.old)
+        (Rose (S.faults site.old) (S.faults site.new)) (F.tells folder.old)
+        (F.contents folder.old) (Rose (F.faults folder.old) (F.faults folder.new)) result }
+    ensures full { (asked : _) → asked_of words.now ≡ Some asked → RefusesFull (F.tells folder.old)
+        (Rose (F.faults folder.old) (F.faults folder.new)) (F.contents folder.old) result }
+    ensures said { (asked : _) → asked_of words.now ≡ Some asked → (result ≡ 0 → ⊥) →
+        S.tells site.old → SaidAtMost asked (S.told site.old) (S.told site.new) }
+    ensures unchanged { (result ≡ 0 → ⊥) → F.tells folder.old →
+        F.contents folder.new ≡ F.contents folder.old }
 {
     let Some(words) = read_words(words) else {
         return 2;

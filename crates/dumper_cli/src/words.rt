@@ -76,7 +76,8 @@ fn are_words(words: &Words<'_>) -> bool
 
 // The eight words without a password.
 fn without_password(words: &[Name]) -> Option<Words<'_>>
-    ensures { MatchOption result (without_password words.now ≡ None) (λ found. without_password words.now ≡ Some (asked_by found)) }
+    ensures { MatchOption result (without_password words.now ≡ None)
+        (λ found. without_password words.now ≡ Some (asked_by found)) }
 {
     let [a, user, b, schema, c, table, d, path] = words else {
         return None;
@@ -96,7 +97,8 @@ fn without_password(words: &[Name]) -> Option<Words<'_>>
 
 // The ten words with one.
 fn with_password(words: &[Name]) -> Option<Words<'_>>
-    ensures { MatchOption result (with_password words.now ≡ None) (λ found. with_password words.now ≡ Some (asked_by found)) }
+    ensures { MatchOption result (with_password words.now ≡ None)
+        (λ found. with_password words.now ≡ Some (asked_by found)) }
 {
     let [a, user, p, password, b, schema, c, table, d, path] = words else {
         return None;
@@ -119,7 +121,8 @@ fn with_password(words: &[Name]) -> Option<Words<'_>>
 /// digits and `_`; the password and the path aren't empty and don't begin with `-`. `None` exactly
 /// where the words are others. Takes no memory.
 pub fn read_words(words: &NameList) -> Option<Words<'_>>
-    ensures { MatchOption result (asked_of words.now ≡ None) (λ found. asked_of words.now ≡ Some (asked_by found)) }
+    ensures { MatchOption result (asked_of words.now ≡ None)
+        (λ found. asked_of words.now ≡ Some (asked_by found)) }
 {
     let words = words.as_slice();
     match without_password(words) {

@@ -39,7 +39,8 @@ pub record IsShareOf (start : Database) (share : Share) : Type 0 where
 
 -- no table's rows are changed by both
 abbrev pub IsApart : Share → Share → Type 0
-IsApart one other = (schema name : List ℕ) → one.takes schema name ≡ true → other.takes schema name ≡ false
+IsApart one other =
+    (schema name : List ℕ) → one.takes schema name ≡ true → other.takes schema name ≡ false
 
 -- no table's rows are changed by two of the lists
 abbrev pub AreApart : List Share → Type 0
@@ -53,13 +54,17 @@ is_none_of shares schema name = list_all (λ share. not (share.takes schema name
 -- the database after an interleaving: in each table are the rows that its own list leaves, in the others those from before
 pub record IsAfter (start : Database) (shares : List Share) (last : Database) : Type 0 where
   pub objects : last.objects ≡ start.objects
-  pub own : All (λ (share : Share). (schema name : List ℕ) → share.takes schema name ≡ true → rows_of last schema name ≡ rows_of share.after schema name) shares
-  pub others : (schema name : List ℕ) → is_none_of shares schema name ≡ true → rows_of last schema name ≡ rows_of start schema name
+  pub own : All (λ (share : Share). (schema name : List ℕ) → share.takes schema name ≡ true →
+      rows_of last schema name ≡ rows_of share.after schema name) shares
+  pub others : (schema name : List ℕ) → is_none_of shares schema name ≡ true →
+      rows_of last schema name ≡ rows_of start schema name
 
 -- every interleaving of lists over different tables fits where each of them does alone, and leaves in each table what its own list leaves there
 abbrev pub ListsOverDifferentTablesCommute : Type 0
-ListsOverDifferentTablesCommute = (start : Database) (shares : List Share) → All (IsShareOf start) shares → AreApart shares
-    → (whole : List Transaction) → Interleaves (map (λ (share : Share). share.list) shares) whole → (last : Database) × (more_db start whole ≡ Some last) × IsAfter start shares last
+ListsOverDifferentTablesCommute =
+    (start : Database) (shares : List Share) → All (IsShareOf start) shares → AreApart shares
+    → (whole : List Transaction) → Interleaves (map (λ (share : Share). share.list) shares) whole →
+    (last : Database) × (more_db start whole ≡ Some last) × IsAfter start shares last
 
 -- every table is taken
 abbrev pub any_table : List ℕ → List ℕ → Bool
@@ -67,8 +72,12 @@ any_table schema name = true
 
 -- the databases after any two interleavings of lists that change nothing but rows agree, where both fit
 abbrev pub InterleavingsAgree : Type 0
-InterleavingsAgree = (start : Database) (lists : List (List Transaction)) → All (λ (list : List Transaction). is_over any_table list ≡ true) lists
-    → (one other : List Transaction) → Interleaves lists one → Interleaves lists other → (last next : Database) → more_db start one ≡ Some last → more_db start other ≡ Some next → Agree last next
+InterleavingsAgree =
+    (start : Database) (lists : List (List Transaction)) →
+    All (λ (list : List Transaction). is_over any_table list ≡ true) lists
+    → (one other : List Transaction) → Interleaves lists one → Interleaves lists other →
+    (last next : Database) → more_db start one ≡ Some last → more_db start other ≡ Some next →
+    Agree last next
 
 -- the change puts a row into a table
 abbrev pub is_put : Change → Bool
@@ -87,7 +96,8 @@ pub record PutsRows (start : Database) (list : List Transaction) : Type 0 where
 
 -- the row that a change puts into the table
 abbrev pub row_into : List ℕ → List ℕ → Change → Option (List Cell)
-row_into schema name (Put other_schema other_name row) = if bytes_eq other_schema schema && bytes_eq other_name name then Some row else None
+row_into schema name (Put other_schema other_name row) =
+    if bytes_eq other_schema schema && bytes_eq other_name name then Some row else None
 row_into schema name other = None
 
 -- the rows that the transactions put into the table
@@ -95,36 +105,47 @@ abbrev pub rows_into : List ℕ → List ℕ → List Transaction → List (List
 rows_into schema name list = flat_map (λ one. filter_map (row_into schema name) one.changes) list
 
 -- the database after an interleaving of such lists: in each table stand the rows from before and those that each list puts there
-pub record IsFilledBy (start : Database) (lists : List (List Transaction)) (last : Database) : Type 0 where
+pub record IsFilledBy (start : Database) (lists : List (List Transaction))
+    (last : Database) : Type 0 where
   pub objects : last.objects ≡ start.objects
-  pub rows : (schema name : List ℕ) → IsSameBag (rows_of last schema name) (rows_of start schema name ++ flat_map (rows_into schema name) lists)
+  pub rows : (schema name : List ℕ) →
+      IsSameBag (rows_of last schema name)
+      (rows_of start schema name ++ flat_map (rows_into schema name) lists)
 
 -- every interleaving of lists that only put rows fits where each of them does alone, and leaves what each of them puts, be it in one table or in several
 abbrev pub ListsThatPutRowsCommute : Type 0
-ListsThatPutRowsCommute = (start : Database) (lists : List (List Transaction)) → All (PutsRows start) lists
-    → (whole : List Transaction) → Interleaves lists whole → (last : Database) × (more_db start whole ≡ Some last) × IsFilledBy start lists last
+ListsThatPutRowsCommute =
+    (start : Database) (lists : List (List Transaction)) → All (PutsRows start) lists
+    → (whole : List Transaction) → Interleaves lists whole → (last : Database)
+    × (more_db start whole ≡ Some last) × IsFilledBy start lists last
 
 -- the only interleaving of one list is the list
 abbrev pub OneListIsItsInterleaving : Type 0
-OneListIsItsInterleaving = (list whole : List Transaction) → Interleaves (list ∷ []) whole → whole ≡ list
+OneListIsItsInterleaving =
+    (list whole : List Transaction) → Interleaves (list ∷ []) whole → whole ≡ list
 
 -- of each kind, schema and name there is at most one object after a history
 abbrev pub ObjectsStandOnce : Type 0
 ObjectsStandOnce = (history : List Transaction) (database : Database) → db history ≡ Some database
-    → (kind : Kind) (schema name : List ℕ) → length (filter (is_object kind schema name) database.objects) ≤ 1
+    → (kind : Kind) (schema name : List ℕ) →
+    length (filter (is_object kind schema name) database.objects) ≤ 1
 
 -- the schema of each object that isn't one is there
 abbrev pub SchemasAreThere : Type 0
 SchemasAreThere = (history : List Transaction) (database : Database) → db history ≡ Some database
-    → All (λ (object : Object). kind_eq object.kind Schema ≡ false → has_schema database object.schema ≡ true) database.objects
+    → All (λ (object : Object). kind_eq object.kind Schema ≡ false →
+    has_schema database object.schema ≡ true) database.objects
 
 -- each step fits, and keeps what is said of what is left of the lists and of the database
-abbrev pub IsKept : (List (List Transaction) → Database → Type 0) → Type 0
-IsKept Holds = (lists fewer : List (List Transaction)) (one : Transaction) (state : Database) → TakesHead lists one fewer → Holds lists state
+abbrev pub FitsAndKeeps : (List (List Transaction) → Database → Type 0) → Type 0
+FitsAndKeeps Holds =
+    (lists fewer : List (List Transaction)) (one : Transaction) (state : Database) →
+    TakesHead lists one fewer → Holds lists state
     → (next : Database) × (changes_db state one.changes ≡ Some next) × Holds fewer next
 
 -- the whole fits, nothing is left of the lists, and what is said holds
-pub record HoldsAfter (Holds : List (List Transaction) → Database → Type 0) (state : Database) (whole : List Transaction) : Type 0 where
+pub record HoldsAfter (Holds : List (List Transaction) → Database → Type 0) (state : Database)
+    (whole : List Transaction) : Type 0 where
   pub last : Database
   pub fits : more_db state whole ≡ Some last
   pub left : List (List Transaction)

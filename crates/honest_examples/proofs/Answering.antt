@@ -9,7 +9,7 @@ use Rattle.server_data.specs.Bag.{IsSameBag, count_of}
 use Rattle.server_data.specs.Fold.{rows_of}
 use Rattle.sql_cells.specs.declared.cell.Cell.{Cell}
 use Rattle.sql_cells.specs.declared.cell.Cell.TheVariants.{Value}
-use Rattle.honest_server.specs.Answer.{HasKey, IsColumnRow, everything, has_bytes, is_inside, keys_rise, only_cell}
+use Rattle.honest_server.specs.Answer.{HasKey, IsColumnRow, everything, has_bytes, is_between, keys_rise, only_cell}
 use Rattle.honest_server.specs.Columns.{integer_at}
 use Rattle.honest_examples.specs.Answered.{column_row, key, told, AllRowsCome, ATableIsToldWithItsEngine, ATextIsShown, ColumnsAreAskedForInOrder, ColumnsAreToldWithTheirTypes, EachSchemaIsTold, KeysAreSkipped, NoPositionIsShown, NoTriggersAreTold, RowsInsideTheBoundsCome, RowsComeInTheOrderOfTheKey, TheKeyIsTold, TheLastPositionIsShown, TheSignOfPlainIntegersIsTold}
 use Rattle.honest_examples.proofs.Bags.{first_of_two, other_order, same_rows, some_row}
@@ -42,8 +42,8 @@ above = record {
   refused = λ answer. never answer.has_key.index answer.has_key.key_is answer.in_order.same;
 }
   where
-    never : (index : ℕ) → the_table.key ≡ Some index → IsSameBag (one ∷ two ∷ []) (filter (λ row. is_inside (record { above = Some (pos 1); up_to = None }) (integer_at the_table.columns index row)) (one ∷ two ∷ [])) → ⊥
-    never index is_key bag = let same : index ≡ 0 = cc in absurd (cc ((subst (λ index. IsSameBag (one ∷ two ∷ []) (filter (λ row. is_inside (record { above = Some (pos 1); up_to = None }) (integer_at the_table.columns index row)) (one ∷ two ∷ []))) same bag).counts one))
+    never : (index : ℕ) → the_table.key ≡ Some index → IsSameBag (one ∷ two ∷ []) (filter (λ row. is_between (record { above = Some (pos 1); up_to = None }) (integer_at the_table.columns index row)) (one ∷ two ∷ [])) → ⊥
+    never index is_key bag = let same : index ≡ 0 = cc in absurd (cc ((subst (λ index. IsSameBag (one ∷ two ∷ []) (filter (λ row. is_between (record { above = Some (pos 1); up_to = None }) (integer_at the_table.columns index row)) (one ∷ two ∷ []))) same bag).counts one))
 
 pub all : AllRowsCome
 unfolding rows_of count_of
@@ -84,12 +84,12 @@ skipped = record {
     of_whole (first ∷ []) same rise shown = absurd (cc)
     of_whole (first ∷ cells ∷ rows) same rise shown = second first cells rows (first_of_two first one two (cells ∷ rows) same) rise shown
 
-    never : (index : ℕ) → the_table.key ≡ Some index → (whole : List (List Cell)) → IsSameBag whole (filter (λ row. is_inside everything (integer_at the_table.columns index row)) (one ∷ two ∷ [])) → keys_rise (map (integer_at the_table.columns index) whole) ≡ true
+    never : (index : ℕ) → the_table.key ≡ Some index → (whole : List (List Cell)) → IsSameBag whole (filter (λ row. is_between everything (integer_at the_table.columns index row)) (one ∷ two ∷ [])) → keys_rise (map (integer_at the_table.columns index) whole) ≡ true
         → (Value (codes "1") ∷ []) ∷ [] ≡ filter_map (only_cell the_table.columns index) (take 1 (drop 1 whole)) → ⊥
     never index is_key whole bag rise shown =
         let same : index ≡ 0 = cc in
         of_whole whole
-        (subst (λ index. IsSameBag whole (filter (λ row. is_inside everything (integer_at the_table.columns index row)) (one ∷ two ∷ []))) same bag)
+        (subst (λ index. IsSameBag whole (filter (λ row. is_between everything (integer_at the_table.columns index row)) (one ∷ two ∷ []))) same bag)
         (subst (λ index. keys_rise (map (integer_at the_table.columns index) whole) ≡ true) same rise)
         (subst (λ index. (Value (codes "1") ∷ []) ∷ [] ≡ filter_map (only_cell the_table.columns index) (take 1 (drop 1 whole))) same shown)
 

@@ -9,7 +9,7 @@ use Rattle.wire_forms.specs.KeptText.{short_text}
 use Rattle.wire_forms.specs.Reading.{Further, columns_counted, definition as turn_definition, end, garbled, is_end_packet, row}
 use Rattle.wire_forms.specs.Reply.{reply_of}
 use Rattle.wire_forms.specs.ResultSet.{IsResultSet, IsTaken, turns_of}
-use Rattle.wire_forms.specs.Row.{Cell as SentCell}
+use Rattle.plain_data.specs.Cell.{Cell as SentCell}
 use Rattle.wire_forms.specs.declared.ends.Ends.{Ends}
 use Rattle.wire_forms.specs.declared.ends.Ends.TheVariants.{Eof, Ok}
 use Rattle.wire_forms.specs.declared.reply.Reply.TheVariants.{Columns, Done}
@@ -23,7 +23,7 @@ use Rattle.statement_forms.specs.declared.statement.Statement.TheVariants.{Comma
 use Rattle.honest_server.specs.Exchange.{BeginsAt, Exchanges, IsLoggingIn, packets_from, Replies, accepted, ignored, query_payload, quits, quit_payload, served, switched, turned_away, unknown}
 use Rattle.honest_server.specs.Moves.{Way, plainly}
 use Rattle.honest_server.specs.Serve.{Reply, Serves, done, rows, refused}
-use Rattle.honest_server.specs.Spelled.{IsLeanFront, IsLeanSet, Spells}
+use Rattle.honest_server.specs.Spelled.{IsLeanFront, IsLeanSet, SpellsReply}
 use Rattle.honest_server.specs.State.{Phase, Server, State, in_session, with_others}
 use Rattle.honest_examples.specs.Effects.{worked}
 use Rattle.honest_examples.specs.Exchanges.{ACommandIsAnsweredByOneMessage, ACommitIsAnsweredByAnOk, ALoginIsTaken, AnOkEndsAResultSet, AQueryIsAnsweredByItsRows, AQuitIsntAnswered, AreOk, commit, definition, eof_packet, err, ending_ok_packet, logging_in, ok, only, set_before, short_set}
@@ -45,7 +45,7 @@ one_message = record {
   refused = never;
 }
   where
-    never : (of : Server) (reply : Reply) (columns : ℕ) (found : List (List SentCell)) (messages : List (List ℕ)) → IsResultSet of.ends columns found messages → Spells of (SomeCommand Commit) reply messages → ⊥
+    never : (of : Server) (reply : Reply) (columns : ℕ) (found : List (List SentCell)) (messages : List (List ℕ)) → IsResultSet of.ends columns found messages → SpellsReply of (SomeCommand Commit) reply messages → ⊥
     never of done columns found messages set spells = no_single of.ends columns found spells.message (subst (λ (messages : List (List ℕ)). IsResultSet of.ends columns found messages) spells.messages_are set)
     never of (rows others) columns found messages set spells = spells
     never of (refused others said) columns found messages set spells = no_single of.ends columns found spells.message (subst (λ (messages : List (List ℕ)). IsResultSet of.ends columns found messages) spells.messages_are set)
@@ -184,7 +184,7 @@ record IsOkAlone (messages : List (List ℕ)) : Type 0 where
 pub record IsServedTo (way : Way) (statement : Statement) (state : State) (messages : List (List ℕ)) (new : State) : Type 0 where
   pub reply : Reply
   pub serves : Serves way state statement reply new
-  pub spells : Spells state.terms.server statement reply messages
+  pub spells : SpellsReply state.terms.server statement reply messages
 
 -- in a session COM_QUERY with a text is answered so
 of_text : (way : Way) (text : List ℕ) (wanted : Statement) → IsReadAs text wanted → (state : State) (payload : List ℕ) (messages : List (List ℕ)) (new : State) → state.phase ≡ in_session → payload ≡ query_payload text → Replies way state payload messages new → IsServedTo way wanted state messages new
@@ -195,7 +195,7 @@ of_text way text wanted is_read state payload messages new in_phase is (quits ph
 of_text way text wanted is_read state payload messages new in_phase is (served other statement reply phase payload_is read_as serves spells) = record {
   reply = reply;
   serves = subst (λ (statement : Statement). Serves way state statement reply new) statement_is serves;
-  spells = subst (λ (statement : Statement). Spells state.terms.server statement reply messages) statement_is spells;
+  spells = subst (λ (statement : Statement). SpellsReply state.terms.server statement reply messages) statement_is spells;
 }
   where
     text_is : other ≡ text
@@ -222,7 +222,7 @@ pub of_commit : (state : State) (reply : List ℕ) (new : State) → (exchanges 
 of_commit state reply new exchanges in_phase = of_message plainly (codes "COMMIT") commit (SomeCommand Commit) read commit_is state reply new exchanges in_phase
 
 -- where no transaction is open, that is an OK
-by_reply : (reply : Reply) (messages : List (List ℕ)) (new : State) → Serves plainly worked (SomeCommand Commit) reply new → Spells server (SomeCommand Commit) reply messages → IsOkAlone messages × (new ≡ worked)
+by_reply : (reply : Reply) (messages : List (List ℕ)) (new : State) → Serves plainly worked (SomeCommand Commit) reply new → SpellsReply server (SomeCommand Commit) reply messages → IsOkAlone messages × (new ≡ worked)
 by_reply done messages new serves spells = (record { message = spells.message; says = spells.says; messages_are = spells.messages_are }, serves.handles ∙ ap (λ (more : List Transaction). with_others worked more) (serves.sees.sole refl refl))
 by_reply (rows found) messages new serves spells = absurd spells
 by_reply (refused found said) messages new serves spells = absurd (serves.must refl done (with_others worked serves.more) refl)

@@ -8,7 +8,7 @@ use Rattle.server_data.specs.Fold.{change_db, has_object, may_make}
 use Rattle.server_data.specs.declared.data.Transaction.{Transaction}
 use Rattle.sql_cells.specs.declared.cell.Cell.{Cell}
 use Rattle.sql_cells.specs.declared.cell.Cell.TheVariants.{Null}
-use Rattle.statement_forms.specs.Statement.{CommandHasText, IsReadAs, IsTextOf, command_row, row_of}
+use Rattle.statement_forms.specs.Statement.{CommandHasText, IsReadAs, IsTextOf, command_row, list_row}
 use Rattle.statement_forms.specs.Text.{command_text}
 use Rattle.statement_forms.specs.declared.command.Command.{Command}
 use Rattle.statement_forms.specs.declared.command.Command.TheVariants.{Commit, Create, CreateProgress, CreateProgressDump, CreateProgressFiles, Insert, InsertProgressDump, InsertProgressFile, Rollback, Start, StartSnapshot, Use}
@@ -17,7 +17,7 @@ use Rattle.statement_forms.specs.declared.statement.Statement.TheVariants.{Comma
 use Rattle.honest_server.specs.Exchange.{CommitsAlone, Exchanges, query_payload, served}
 use Rattle.honest_server.specs.Moves.{beside}
 use Rattle.honest_server.specs.Serve.{IsHandled, Reply, Serves, done, rows, refused}
-use Rattle.honest_server.specs.Spelled.{Spells}
+use Rattle.honest_server.specs.Spelled.{SpellsReply}
 use Rattle.honest_server.specs.State.{State, in_session, with_own}
 use Rattle.honest_server.specs.WellFormed.{IsSound}
 use Rattle.honest_examples.specs.Exchanges.{ok}
@@ -60,7 +60,7 @@ of_command (InsertProgressFile name) has is = absurd (omega (arith, ap first is)
 of_command (InsertProgressDump digest) has is = absurd (omega (arith, ap first is))
 of_command command has is = inl (omega arith)
 
-latest : (other : Statement) → IsTextOf other text → (row_of other < 15) ⊎ (other ≡ snapshot)
+latest : (other : Statement) → IsTextOf other text → (list_row other < 15) ⊎ (other ≡ snapshot)
 unfolding third
 latest (SomeCommand command) is = of_command command is.0 is.1
 latest (SomeQuery query) is = absurd (no_query text query is.2 refl)
@@ -94,7 +94,7 @@ exchanged : Exchanges (beside a_holds) one_of_two start_snapshot ok_packet b_vie
 unfolding packets
 exchanged = record { payload = query_payload text; is_message = record { id = 0; begins = refl; message_is = refl }; messages = ok ∷ []; replies = served text snapshot done refl refl read taken one_message.allowed; reply_is = refl }
 
-shows : (reply : Reply) (messages : List (List ℕ)) (new : State) → Serves (beside a_holds) one_of_two snapshot reply new → Spells server snapshot reply messages → new.view ≡ Some a_holds.seen
+shows : (reply : Reply) (messages : List (List ℕ)) (new : State) → Serves (beside a_holds) one_of_two snapshot reply new → SpellsReply server snapshot reply messages → new.view ≡ Some a_holds.seen
 shows done messages new serves spells = ap (λ (state : State). state.view) serves.handles.new_is ∙ (ap (λ (state : State). Some (state.seen)) serves.handles.ended ∙ ap (λ (seen : List Transaction). Some seen) serves.sees.joined)
 shows (rows found) messages new serves spells = absurd spells
 shows (refused found said) messages new serves spells = absurd (serves.must refl done b_views taken)
@@ -142,7 +142,7 @@ alone = record {
   };
 }
 
-none_of_own : (reply : Reply) (messages : List (List ℕ)) (new : State) → Serves (beside a_holds) b_opened snapshot reply new → Spells server snapshot reply messages → new.mine ≡ []
+none_of_own : (reply : Reply) (messages : List (List ℕ)) (new : State) → Serves (beside a_holds) b_opened snapshot reply new → SpellsReply server snapshot reply messages → new.mine ≡ []
 none_of_own done messages new serves spells = absurd (omega (arith, ap (λ (list : List Transaction). length list) too_long, length-append (history ++ serves.more) (serves.handles.ended.one ∷ [])))
   where
     too_long : (history ++ serves.more) ++ serves.handles.ended.one ∷ [] ≡ history ++ serves.more

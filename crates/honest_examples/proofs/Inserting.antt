@@ -37,7 +37,7 @@ use Rattle.honest_server.specs.Answer.{has_bytes, object_at}
 use Rattle.honest_server.specs.Catalogue.{a_row, no_more}
 use Rattle.honest_server.specs.Columns.{are_numbers, plain_columns, plain_names}
 use Rattle.honest_server.specs.Effect.{Effect, GoesInto}
-use Rattle.honest_server.specs.Insert.{Inserts, Insertion, SpelledCell, SpellsCell, SpellsCells, SpellsInsert, SpellsRows, StandAmong, are_spelled_for, cells_of, last_cell, last_row, next_cell, next_row}
+use Rattle.honest_server.specs.Insert.{Inserts, Insertion, SpelledCell, SpellsCell, SpellsCells, SpellsInsert, SpellsRows, StandAmong, are_spelled_for, plain_cells, last_cell, last_row, next_cell, next_row}
 use Rattle.honest_server.specs.Moves.{MayFollow, plainly}
 use Rattle.honest_server.specs.Serve.{FitsNowhere, Handles, done, rows, refused}
 use Rattle.honest_server.specs.State.{State, database_found_by, open_changes, with_others, with_own}
@@ -117,13 +117,13 @@ only_table name object found = by_test (bytes_eq table name) (bytes_eq-Decides t
     by_test false named found = absurd (cc)
 
 -- such rows have a key that is there
-clash : (found : List (List SpelledCell)) → BeginWithOne found → HasKeys the_table.columns 0 (one ∷ two ∷ map cells_of found) → ⊥
+clash : (found : List (List SpelledCell)) → BeginWithOne found → HasKeys the_table.columns 0 (one ∷ two ∷ map plain_cells found) → ⊥
 clash found begins keys = (subst (λ (found : List (List Cell)). HasKeys the_table.columns 0 (one ∷ two ∷ found)) is keys).distinct 0 2 one (omega arith) (omega arith) refl
   where
-    is : map cells_of found ≡ (Value (codes "1") ∷ cells_of begins.begins.others) ∷ map cells_of begins.others
-    is = ap (λ (found : List (List SpelledCell)). map cells_of found) begins.rows_are
-        ∙ (ap (λ (first : List SpelledCell). cells_of first ∷ map cells_of begins.others) begins.begins.cells_are
-        ∙ ap (λ (cell : Cell). (cell ∷ cells_of begins.begins.others) ∷ map cells_of begins.others) begins.begins.first_is)
+    is : map plain_cells found ≡ (Value (codes "1") ∷ plain_cells begins.begins.others) ∷ map plain_cells begins.others
+    is = ap (λ (found : List (List SpelledCell)). map plain_cells found) begins.rows_are
+        ∙ (ap (λ (first : List SpelledCell). plain_cells first ∷ map plain_cells begins.others) begins.begins.cells_are
+        ∙ ap (λ (cell : Cell). (cell ∷ plain_cells begins.begins.others) ∷ map plain_cells begins.others) begins.begins.first_is)
 
 abbrev pub text_of : List ℕ → List ℕ
 text_of spelled = codes "INSERT INTO `t` (`id`,`a`) VALUES\n" ++ spelled
@@ -149,11 +149,11 @@ taken name says changes spells inserts = clash says.rows (first_row spells.spell
     named : says.columns ≡ plain_names the_table.columns
     named = inserts.all_columns ∙ ap (λ (object : Object). plain_names object.columns) is.is
 
-    of_rows : HasKeysWhere inserts.object.columns inserts.object.key (rows_of database schema table ++ map cells_of says.rows)
+    of_rows : HasKeysWhere inserts.object.columns inserts.object.key (rows_of database schema table ++ map plain_cells says.rows)
     of_rows = subst (λ (rows : List (List Cell)). HasKeysWhere inserts.object.columns inserts.object.key (rows_of database schema table ++ rows)) inserts.rows_are (subst (λ (name : List ℕ). HasKeysWhere inserts.object.columns inserts.object.key (rows_of database schema name ++ inserts.rows)) is.named inserts.keys)
 
-    keys : HasKeys the_table.columns 0 (one ∷ two ∷ map cells_of says.rows)
-    keys = subst (λ (rows : List (List Cell)). HasKeys the_table.columns 0 (rows ++ map cells_of says.rows)) (rows_are (one ∷ two ∷ [])) (subst (λ (object : Object). HasKeysWhere object.columns object.key (rows_of database schema table ++ map cells_of says.rows)) is.is of_rows)
+    keys : HasKeys the_table.columns 0 (one ∷ two ∷ map plain_cells says.rows)
+    keys = subst (λ (rows : List (List Cell)). HasKeys the_table.columns 0 (rows ++ map plain_cells says.rows)) (rows_are (one ∷ two ∷ [])) (subst (λ (object : Object). HasKeysWhere object.columns object.key (rows_of database schema table ++ map plain_cells says.rows)) is.is of_rows)
 
 -- an INSERT into a table of the current schema of a link that finds this database
 pub inserts_there : (found_in : Database) (current name : List ℕ) (says : Insertion) (changes : List Change) (end : Database) → found_in ≡ end → current ≡ schema → Inserts server found_in (record { schema = current; name = name }) says changes → Inserts server end (in_schema name) says changes

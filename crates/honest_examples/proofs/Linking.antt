@@ -16,7 +16,7 @@ use Rattle.honest_server.specs.Exchange.{CommitsAlone, Exchanges, query_payload,
 use Rattle.honest_server.specs.Link.{IsShown, IsSoundState}
 use Rattle.honest_server.specs.Moves.{plainly}
 use Rattle.honest_server.specs.Serve.{Reply, Serves, done, rows, refused}
-use Rattle.honest_server.specs.Spelled.{Spells}
+use Rattle.honest_server.specs.Spelled.{SpellsReply}
 use Rattle.honest_server.specs.State.{State, with_others}
 use Rattle.honest_server.specs.WellFormed.{IsSound}
 use Rattle.honest_examples.specs.Effects.{opened, with_three, worked}
@@ -51,7 +51,7 @@ kept new none seen more ended = omega (arith, ap (λ (list : List Transaction). 
 abbrev lost : State
 lost = record opened { pending = None }
 
-not_served : (reply : Reply) (messages : List (List ℕ)) → Serves plainly opened (SomeCommand Commit) reply lost → Spells server (SomeCommand Commit) reply messages → ⊥
+not_served : (reply : Reply) (messages : List (List ℕ)) → Serves plainly opened (SomeCommand Commit) reply lost → SpellsReply server (SomeCommand Commit) reply messages → ⊥
 not_served done messages serves spells = kept lost refl refl serves.more serves.handles
 not_served (rows found) messages serves spells = spells
 not_served (refused found said) messages serves spells = served_commits.allowed.no_err said lost (subst (λ (found : List (List Cell)). Serves plainly opened (SomeCommand Commit) (refused found said) lost) serves.before serves)

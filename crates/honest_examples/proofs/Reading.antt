@@ -2,7 +2,7 @@
 use Rattle.std.proofs.Common.{◌≡◌, ◌<◌, ℕ, List, refl, ap, sym, arith, ◌⊎◌, inl, inr, codes, subst}
 use Rattle.object_forms.specs.Head.{HasHead}
 use Rattle.object_forms.specs.Token.{tokens}
-use Rattle.statement_forms.specs.Statement.{CommandHasText, IsReadAs, IsTextOf, command_row, row_of}
+use Rattle.statement_forms.specs.Statement.{CommandHasText, IsReadAs, IsTextOf, command_row, list_row}
 use Rattle.statement_forms.specs.Text.{command_text}
 use Rattle.statement_forms.specs.declared.command.Command.{Command}
 use Rattle.statement_forms.specs.declared.command.Command.TheVariants.{Commit, Rollback, Use, Create, CreateProgress, CreateProgressFiles, CreateProgressDump, Insert, InsertProgressFile, InsertProgressDump}
@@ -31,7 +31,7 @@ of_command (InsertProgressFile name) has is = absurd (omega (arith, ap first is)
 of_command (InsertProgressDump digest) has is = absurd (omega (arith, ap first is))
 of_command command has is = inl (omega arith)
 
-pub latest : (other : Statement) → IsTextOf other text → (row_of other < 17) ⊎ (other ≡ SomeCommand Commit)
+pub latest : (other : Statement) → IsTextOf other text → (list_row other < 17) ⊎ (other ≡ SomeCommand Commit)
 unfolding third
 latest (SomeCommand command) is = of_command command is.0 is.1
 latest (SomeQuery query) is = absurd (no_query text query is.2 refl)

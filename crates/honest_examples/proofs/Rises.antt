@@ -21,7 +21,7 @@ use Rattle.sql_cells.specs.declared.cell.Cell.{Cell}
 use Rattle.honest_server.specs.Catalogue.{IsRise, RaisesCounter, a_rise, no_more, one_more}
 use Rattle.sql_cells.specs.Number.{is_digits}
 use Rattle.honest_server.specs.Columns.{are_numbers, integer_at, is_under, plain_columns, whole_at}
-use Rattle.honest_server.specs.WellFormed.{HasGoodRows, HasItsHead, IsCounted, IsCountedWhere, IsShaped, IsWellFormed, IsWellFormedObject, is_name}
+use Rattle.honest_server.specs.WellFormed.{HasGoodRows, HasItsHead, IsUnderCounter, IsCountedWhere, IsShaped, IsWellFormed, IsWellFormedObject, is_name}
 use Rattle.honest_examples.specs.Catalogue.{ACounterRises, ANumberIsUnderItsCounter, RowsAndCountersKeepTheCatalogue, anew, counted, five, numbered, of_number, seven, six, text_with, with_counter}
 use Rattle.honest_examples.specs.Worked.{id, schema, the_schema}
 use Rattle.honest_examples.proofs.Bags.{same_rows}
@@ -100,7 +100,7 @@ well_counted after next digits numbers is are_numbers_all read keys under = reco
 pub not_under : (digits : List (List ℕ)) (more : List (List Cell)) → map of_number digits ≡ of_number (codes "4") ∷ of_number (codes "5") ∷ more → IsWellFormed (counted five digits) → ⊥
 not_under digits more is wrong = never (subst (λ (rows : List (List Cell)). IsCountedWhere (id ∷ []) (Some (counter_at 5)) rows) (numbered_rows five digits ∙ is) (subst (λ (found : Option TableCounter). IsCountedWhere (id ∷ []) found (rows_of (counted five digits) schema numbered)) says_five (wrong.objects 1 (with_counter five) (omega arith)).rows.counted))
   where
-    never : IsCounted (id ∷ []) (counter_at 5) (of_number (codes "4") ∷ of_number (codes "5") ∷ more) → ⊥
+    never : IsUnderCounter (id ∷ []) (counter_at 5) (of_number (codes "4") ∷ of_number (codes "5") ∷ more) → ⊥
     never wrong = let same : wrong.column ≡ id = cc (wrong.column_is) in false≢true (subst (λ (column : Column). is_under column 5 (pos 5) ≡ true) same (wrong.integers 1 [] (omega arith)).0)
 
 pub under : ANumberIsUnderItsCounter

@@ -6,7 +6,7 @@ use Rattle.my_packets.proofs.Packets.{last_packets, packets_length}
 use Rattle.object_forms.specs.Head.{HasHead}
 use Rattle.object_forms.specs.Token.{tokens}
 use Rattle.sql_cells.specs.declared.cell.Cell.{Cell}
-use Rattle.statement_forms.specs.Statement.{CommandHasText, IsReadAs, IsTextOf, command_row, row_of}
+use Rattle.statement_forms.specs.Statement.{CommandHasText, IsReadAs, IsTextOf, command_row, list_row}
 use Rattle.statement_forms.specs.Text.{command_text}
 use Rattle.statement_forms.specs.declared.command.Command.{Command}
 use Rattle.statement_forms.specs.declared.command.Command.TheVariants.{Commit, Create, CreateProgress, CreateProgressDump, CreateProgressFiles, Insert, InsertProgressDump, InsertProgressFile, Rollback, Start, StartSnapshot, Use}
@@ -17,7 +17,7 @@ use Rattle.honest_server.specs.Exchange.{query_payload}
 use Rattle.honest_server.specs.Link.{ServedLink}
 use Rattle.honest_server.specs.Moves.{plainly}
 use Rattle.honest_server.specs.Serve.{Reply, Serves, done, rows, refused}
-use Rattle.honest_server.specs.Spelled.{Spells}
+use Rattle.honest_server.specs.Spelled.{SpellsReply}
 use Rattle.honest_server.specs.State.{State}
 use Rattle.honest_examples.specs.Effects.{opened}
 use Rattle.honest_examples.specs.Exchanges.{commit}
@@ -55,7 +55,7 @@ of_command (InsertProgressFile name) has is = absurd (omega (arith, ap first is)
 of_command (InsertProgressDump digest) has is = absurd (omega (arith, ap first is))
 of_command command has is = inl (omega arith)
 
-latest : (other : Statement) → IsTextOf other started → (row_of other < 16) ⊎ (other ≡ SomeCommand Start)
+latest : (other : Statement) → IsTextOf other started → (list_row other < 16) ⊎ (other ≡ SomeCommand Start)
 unfolding third
 latest (SomeCommand command) is = of_command command is.0 is.1
 latest (SomeQuery query) is = absurd (no_query started query is.2 refl)
@@ -106,7 +106,7 @@ alone = record {
 
 -- a COMMIT that is sent
 
-not_moved : (reply : Reply) (messages : List (List ℕ)) → Serves plainly opened (SomeCommand Commit) reply opened → Spells server (SomeCommand Commit) reply messages → ⊥
+not_moved : (reply : Reply) (messages : List (List ℕ)) → Serves plainly opened (SomeCommand Commit) reply opened → SpellsReply server (SomeCommand Commit) reply messages → ⊥
 not_moved done messages serves spells = absurd (cc (ap (λ (state : State). state.pending) serves.handles.new_is))
 not_moved (rows found) messages serves spells = spells
 not_moved (refused found said) messages serves spells = commits.allowed.no_err said opened (subst (λ (found : List (List Cell)). Serves plainly opened (SomeCommand Commit) (refused found said) opened) serves.before serves)

@@ -17,7 +17,7 @@ use Rattle.sql_cells.specs.declared.cell.Cell.TheVariants.{Null, Value}
 use Rattle.sql_cells.specs.declared.cell_kind.CellKind.TheVariants.{Text}
 use Rattle.statement_forms.specs.declared.query.Query.TheVariants.{RowsByKey}
 use Rattle.statement_forms.specs.declared.statement.Statement.TheVariants.{Query as SomeQuery}
-use Rattle.honest_server.specs.Answer.{Answers, everything, is_inside}
+use Rattle.honest_server.specs.Answer.{Answers, everything, is_between}
 use Rattle.honest_server.specs.Columns.{integer_at}
 use Rattle.honest_server.specs.Moves.{MayFollow, SeesOthers, beside}
 use Rattle.honest_server.specs.Serve.{Serves, rows}
@@ -104,8 +104,8 @@ no_less new served = never served.handles.0.database (same_some (sym served.hand
     seen : served.more ≡ puts_three ∷ []
     seen = append_cancel_left history served.more (puts_three ∷ []) served.sees.joined
 
-    in_bag : (index : ℕ) → the_table.key ≡ Some index → IsSameBag (one ∷ two ∷ []) (filter (λ row. is_inside everything (integer_at the_table.columns index row)) (one ∷ two ∷ three ∷ [])) → ⊥
-    in_bag index is_key bag = let same : index ≡ 0 = cc in absurd (cc ((subst (λ index. IsSameBag (one ∷ two ∷ []) (filter (λ row. is_inside everything (integer_at the_table.columns index row)) (one ∷ two ∷ three ∷ []))) same bag).counts three))
+    in_bag : (index : ℕ) → the_table.key ≡ Some index → IsSameBag (one ∷ two ∷ []) (filter (λ row. is_between everything (integer_at the_table.columns index row)) (one ∷ two ∷ three ∷ [])) → ⊥
+    in_bag index is_key bag = let same : index ≡ 0 = cc in absurd (cc ((subst (λ index. IsSameBag (one ∷ two ∷ []) (filter (λ row. is_between everything (integer_at the_table.columns index row)) (one ∷ two ∷ three ∷ []))) same bag).counts three))
 
     never : (end : Database) → end ≡ with_rows (one ∷ two ∷ three ∷ []) → Answers end (RowsByKey columns schema table key) (one ∷ two ∷ []) → ⊥
     never end is answers = in_bag shows.has_key.index shows.has_key.key_is shows.in_order.same

@@ -3,7 +3,7 @@ use Rattle.std.proofs.Common.{◌≡◌, ℕ, ◌==◌, ◌||◌, Bool, true, fa
 use Rattle.std.proofs.lemmas.Bool.{true≢false}
 use Rattle.grammar.specs.Language.{Fixed, Then}
 use Rattle.statement_forms.specs.Insert.{AnyInsert}
-use Rattle.statement_forms.specs.Statement.{IsReadAs, row_of}
+use Rattle.statement_forms.specs.Statement.{IsReadAs, list_row}
 use Rattle.statement_forms.specs.Text.{query_text}
 use Rattle.statement_forms.specs.declared.query.Query.{Query}
 use Rattle.statement_forms.specs.declared.query.Query.TheVariants.{MasterStatus, BinaryLogStatus, CreateDatabase, CreateTable, CreateView, CreateProcedure, CreateFunction, CreateTrigger, CreateEvent}
@@ -47,7 +47,7 @@ insert_first text insert = ap first (insert.2 ∙ ap (λ (front : List ℕ). fro
 pub one_statement : (text : List ℕ) (one other : Statement) → IsReadAs text one → IsReadAs text other → other ≡ one
 one_statement text one other reads also = by_rows (reads.latest other also.text_of) (also.latest one reads.text_of)
   where
-    by_rows : (row_of other < row_of one) ⊎ (other ≡ one) → (row_of one < row_of other) ⊎ (one ≡ other) → other ≡ one
+    by_rows : (list_row other < list_row one) ⊎ (other ≡ one) → (list_row one < list_row other) ⊎ (one ≡ other) → other ≡ one
     by_rows (inr same) later = same
     by_rows (inl below) (inr same) = sym same
     by_rows (inl below) (inl above) = absurd (omega arith)

@@ -21,7 +21,7 @@ use Rattle.sql_cells.specs.declared.cell.Cell.{Cell}
 use Rattle.sql_cells.specs.declared.cell.Cell.TheVariants.{Null, Value}
 use Rattle.sql_literals.proofs.ReadBacks.{inside_of}
 use Rattle.sql_literals.proofs.Units.{escaped_back}
-use Rattle.statement_forms.specs.Statement.{CommandHasText, IsTextOf, command_row, row_of}
+use Rattle.statement_forms.specs.Statement.{CommandHasText, IsTextOf, command_row, list_row}
 use Rattle.statement_forms.specs.Text.{command_text}
 use Rattle.statement_forms.specs.declared.command.Command.{Command}
 use Rattle.statement_forms.specs.declared.command.Command.TheVariants.{Commit, Create, CreateProgress, CreateProgressDump, CreateProgressFiles, FlushTables, Insert, InsertProgressDump, InsertProgressFile, LockInstance, Rollback, Start, StartSnapshot, TimeZone, TimeZoneUtc, UnlockInstance, UnlockTables, Use}
@@ -139,7 +139,7 @@ of_command (InsertProgressFile name) has is = absurd (omega (arith, ap first is)
 of_command (InsertProgressDump digest) has is = absurd (omega (arith, ap first is))
 of_command command has is = inl (omega arith)
 
-latest : (other : Statement) → IsTextOf other utc → (row_of other < 10) ⊎ (other ≡ second_statement)
+latest : (other : Statement) → IsTextOf other utc → (list_row other < 10) ⊎ (other ≡ second_statement)
 unfolding third
 latest (SomeCommand command) is = of_command command is.0 is.1
 latest (SomeQuery query) is = absurd (no_query utc query is.2 refl)

@@ -29,7 +29,7 @@ use Rattle.honest_server.specs.Answer.{has_bytes}
 use Rattle.honest_server.specs.Catalogue.{a_row, no_more}
 use Rattle.honest_server.specs.Columns.{are_numbers, plain_columns, plain_names}
 use Rattle.honest_server.specs.Effect.{IsMade}
-use Rattle.honest_server.specs.Insert.{Inserts, Insertion, SpelledCell, SpellsInsert, are_spelled_for, are_under, cells_of, is_plain_insert, puts_of}
+use Rattle.honest_server.specs.Insert.{Inserts, Insertion, SpelledCell, SpellsInsert, are_spelled_for, are_under, plain_cells, is_plain_insert, puts_of}
 use Rattle.honest_server.specs.Moves.{plainly}
 use Rattle.honest_server.specs.Serve.{FitsNowhere, Handles, Serves, done, refused, rows}
 use Rattle.honest_server.specs.State.{State, no_settings, with_others, with_own}
@@ -188,7 +188,7 @@ puts_two = record {
 
 -- without a trigger one row is put for one
 one_for_one : (name : List ℕ) (says : Insertion) (changes : List Change) → SpellsInsert (text_of (codes "(3,'c')")) name says → Inserts server (with_rows []) (in_schema name) says changes → length changes ≡ 1
-one_for_one name says changes spells inserts = ap (λ (changes : List Change). length changes) is_put ∙ ap (λ (found : List (List Cell)). length (puts_of the_table found)) (inserts.rows_are ∙ ap (λ (found : List (List SpelledCell)). map cells_of found) row.rows_are)
+one_for_one name says changes spells inserts = ap (λ (changes : List Change). length changes) is_put ∙ ap (λ (found : List (List Cell)). length (puts_of the_table found)) (inserts.rows_are ∙ ap (λ (found : List (List SpelledCell)). map plain_cells found) row.rows_are)
   where
     is : IsTheTable name inserts.object
     is = only_table name inserts.object inserts.is_there

@@ -110,7 +110,8 @@ pub record ATextIsShown : Type 0 where
   pub allowed : Answers database (CreateTable schema table)
       ((Value table ∷ Value table_text ∷ []) ∷ [])
   pub withheld : Answers database (CreateTable schema table) ((Value table ∷ Null ∷ []) ∷ []) → ⊥
-  pub refused : (rows : List (List Cell)) → Answers database (CreateTable schema no_table_err) rows → ⊥
+  pub refused : (rows : List (List Cell)) →
+      Answers database (CreateTable schema no_table_err) rows → ⊥
 
 -- what SHOW MASTER STATUS shows of a position without a GTID set
 abbrev pub status : List ℕ → List (List Cell)

@@ -88,10 +88,12 @@ open_state = record worked { pending = Some [] }
 -- without changes.
 pub record AnEmptyTransactionEndsUnderTheReadLock : Type 0 where
   pub allowed : IsServed (frozen open_state) (SomeCommand Commit) done (frozen worked)
-  pub nothing_else : (new : State) → Serves plainly (frozen open_state) (SomeCommand Commit) done new →
+  pub nothing_else : (new : State) →
+      Serves plainly (frozen open_state) (SomeCommand Commit) done new →
       new ≡ frozen worked
   pub started : IsServed (frozen open_state) (SomeCommand Start) done (frozen open_state)
-  pub marked : Serves plainly open_state (SomeCommand Commit) done (with_own open_state (unmarked []))
+  pub marked : Serves plainly open_state (SomeCommand Commit) done
+      (with_own open_state (unmarked []))
   pub refused : Serves plainly (frozen open_state) (SomeCommand Commit) done
       (with_own (frozen open_state) (unmarked [])) → ⊥
 

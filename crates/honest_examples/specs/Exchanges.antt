@@ -4,7 +4,7 @@ use Rattle.wire_forms.specs.Packet.{packets}
 use Rattle.wire_forms.specs.KeptText.{kept_text}
 use Rattle.wire_forms.specs.Reply.{reply_of}
 use Rattle.wire_forms.specs.ResultSet.{IsResultSet}
-use Rattle.wire_forms.specs.Row.{Cell as SentCell}
+use Rattle.plain_data.specs.Cell.{Cell as SentCell}
 use Rattle.wire_forms.specs.declared.ends.Ends.TheVariants.{Ok}
 use Rattle.wire_forms.specs.declared.refusal.Refusal.{Refusal}
 use Rattle.wire_forms.specs.declared.reply.Reply.TheVariants.{Done}
@@ -16,7 +16,7 @@ use Rattle.statement_forms.specs.declared.statement.Statement.TheVariants.{Comma
 use Rattle.honest_server.specs.Exchange.{Exchanges}
 use Rattle.honest_server.specs.Moves.{plainly}
 use Rattle.honest_server.specs.Serve.{Reply, done, rows, refused}
-use Rattle.honest_server.specs.Spelled.{Spells}
+use Rattle.honest_server.specs.Spelled.{SpellsReply}
 use Rattle.honest_server.specs.State.{Server, State, closed_state, greeted, with_error}
 use Rattle.honest_examples.specs.Effects.{worked}
 use Rattle.honest_examples.specs.Worked.{schema, server}
@@ -53,21 +53,22 @@ only name = (Value name ∷ []) ∷ []
 
 -- a command is answered by one message, which is no result set
 pub record ACommandIsAnsweredByOneMessage : Type 0 where
-  pub allowed : Spells server (SomeCommand Commit) done (ok ∷ [])
-  pub err_allowed : Spells server (SomeCommand Commit) (refused [] refusal) (err ∷ [])
-  pub err_is_no_ok : Spells server (SomeCommand Commit) done (err ∷ []) → ⊥
+  pub allowed : SpellsReply server (SomeCommand Commit) done (ok ∷ [])
+  pub err_allowed : SpellsReply server (SomeCommand Commit) (refused [] refusal) (err ∷ [])
+  pub err_is_no_ok : SpellsReply server (SomeCommand Commit) done (err ∷ []) → ⊥
   pub refused : (of : Server) (reply : Reply) (columns : ℕ) (found : List (List SentCell))
       (messages : List (List ℕ)) → IsResultSet of.ends columns found messages →
-      Spells of (SomeCommand Commit) reply messages → ⊥
+      SpellsReply of (SomeCommand Commit) reply messages → ⊥
 
 -- a query is answered by the messages of its rows, after which an ERR may stand in place of the end
 pub record AQueryIsAnsweredByItsRows : Type 0 where
-  pub allowed : Spells server (SomeQuery Schemas) (rows (only schema)) (set_before eof_packet)
-  pub broken_off : Spells server (SomeQuery Schemas) (refused (only schema) refusal)
+  pub allowed : SpellsReply server (SomeQuery Schemas) (rows (only schema)) (set_before eof_packet)
+  pub broken_off : SpellsReply server (SomeQuery Schemas) (refused (only schema) refusal)
       (set_before err)
-  pub other_rows : Spells server (SomeQuery Schemas) (rows (only (codes "ss"))) (set_before eof_packet) → ⊥
+  pub other_rows : SpellsReply server (SomeQuery Schemas) (rows (only (codes "ss")))
+      (set_before eof_packet) → ⊥
   pub refused : (found : List (List Cell)) →
-      Spells server (SomeQuery Schemas) (rows found) (ok ∷ []) → ⊥
+      SpellsReply server (SomeQuery Schemas) (rows found) (ok ∷ []) → ⊥
 
 -- a server whose result sets end by an OK with the header fe
 abbrev pub ending_by_ok : Server
@@ -87,16 +88,16 @@ short_set last = (1 ∷ []) ∷ definition ∷ (1 ∷ codes "s") ∷ last ∷ []
 
 -- there no EOF stands in a result set, and where EOF packets end them, no such OK does
 pub record AnOkEndsAResultSet : Type 0 where
-  pub allowed : Spells ending_by_ok (SomeQuery Schemas) (rows (only schema))
+  pub allowed : SpellsReply ending_by_ok (SomeQuery Schemas) (rows (only schema))
       (short_set ending_ok_packet)
-  pub broken_off : Spells ending_by_ok (SomeQuery Schemas) (refused (only schema) refusal)
+  pub broken_off : SpellsReply ending_by_ok (SomeQuery Schemas) (refused (only schema) refusal)
       (short_set err)
   pub eof_at_the_end : (found : List (List Cell)) →
-      Spells ending_by_ok (SomeQuery Schemas) (rows found) (short_set eof_packet) → ⊥
+      SpellsReply ending_by_ok (SomeQuery Schemas) (rows found) (short_set eof_packet) → ⊥
   pub eof_between : (found : List (List Cell)) →
-      Spells ending_by_ok (SomeQuery Schemas) (rows found) (set_before ending_ok_packet) → ⊥
+      SpellsReply ending_by_ok (SomeQuery Schemas) (rows found) (set_before ending_ok_packet) → ⊥
   pub ok_under_eof : (found : List (List Cell)) →
-      Spells server (SomeQuery Schemas) (rows found) (set_before long_ok) → ⊥
+      SpellsReply server (SomeQuery Schemas) (rows found) (set_before long_ok) → ⊥
 
 -- COM_QUERY COMMIT as one packet of the id 0
 abbrev pub commit : List ℕ

@@ -45,7 +45,8 @@ pub record AnotherPluginIsAskedForOnce : Type 0 where
   pub taken : Exchanges plainly (native switching) (response_packet 3) (ok_of 4) (native in_session)
   pub again : (new : State) →
       Exchanges plainly (native switching) (response_packet 3) (request_packet 4) new → ⊥
-  pub refused : (new : State) → Exchanges plainly logging_in (response_packet 1) (request_packet 2) new → ⊥
+  pub refused : (new : State) →
+      Exchanges plainly logging_in (response_packet 1) (request_packet 2) new → ⊥
 
 -- the same link, before its login, to a server that answers ERR as it likes
 abbrev pub unwilling_login : State
@@ -59,6 +60,7 @@ unwilling_login =
 pub record ALoginIsTurnedAway : Type 0 where
   pub allowed : Exchanges plainly unwilling_login (response_packet 1) (err_of 2)
       (record (with_error unwilling_login (Some Connect) refusal) { phase = over })
-  pub closes : (new : State) → Exchanges plainly unwilling_login (response_packet 1) (err_of 2) new →
+  pub closes : (new : State) →
+      Exchanges plainly unwilling_login (response_packet 1) (err_of 2) new →
       new.phase ≡ over
   pub refused : (new : State) → Exchanges plainly logging_in (response_packet 1) (err_of 2) new → ⊥

@@ -62,7 +62,12 @@ pub record AGreetingIsOfItsServer : Type 0 where
 -- a link on which it waits
 abbrev pub greeted_link : State → ServedLink
 greeted_link state =
-    record { waiting = 74 ∷ 0 ∷ 0 ∷ 0 ∷ greeting_packet; state = state; failed = false; keeps_wide = true }
+    record {
+      waiting = 74 ∷ 0 ∷ 0 ∷ 0 ∷ greeting_packet;
+      state = state;
+      failed = false;
+      keeps_wide = true;
+    }
 
 -- a new link is greeted, and holds no lock
 pub record ANewLinkIsGreeted : Type 0 where

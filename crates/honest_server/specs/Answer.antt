@@ -6,7 +6,7 @@ use Rattle.object_forms.specs.declared.kind.Kind.{Kind}
 use Rattle.object_forms.specs.declared.kind.Kind.TheVariants.{Schema, Table, Procedure, Function, View, Trigger, Event}
 use Rattle.object_forms.specs.declared.shape.Column.{Column}
 use Rattle.server_data.specs.Bag.{IsSameBag}
-use Rattle.server_data.specs.Fold.{is_object, table_of, rows_of}
+use Rattle.server_data.specs.Fold.{is_object, table_of_trigger, rows_of}
 use Rattle.server_data.specs.declared.data.Database.{Database}
 use Rattle.server_data.specs.declared.data.Object.{Object}
 use Rattle.server_data.specs.declared.data.Position.{Position}
@@ -28,9 +28,9 @@ abbrev pub is_in_schema : List ℕ → Object → Bool
 is_in_schema schema object = bytes_eq object.schema schema
 
 -- a cell that has this value, and is NULL where there is none
-abbrev pub cell_of : Option (List ℕ) → Cell
-cell_of None = Null
-cell_of (Some bytes) = Value bytes
+abbrev pub option_cell : Option (List ℕ) → Cell
+option_cell None = Null
+option_cell (Some bytes) = Value bytes
 
 -- SCHEMATA: the name of each schema
 abbrev pub schema_row : Object → Kind → Option (List Cell)
@@ -45,7 +45,9 @@ schema_row object Event = None
 -- TABLES: the name and the engine of each table, and the name of each view, whose engine is NULL
 abbrev pub table_row : Object → Kind → Option (List Cell)
 table_row object Schema = None
-table_row object Table = Some (Value object.name ∷ Value (codes "BASE TABLE") ∷ cell_of (option_map (λ found. found.engine) (shape object.text)) ∷ [])
+table_row object Table =
+    Some (Value object.name ∷ Value (codes "BASE TABLE")
+    ∷ option_cell (option_map (λ found. found.engine) (shape object.text)) ∷ [])
 table_row object Procedure = None
 table_row object Function = None
 table_row object View = Some (Value object.name ∷ Value (codes "VIEW") ∷ Null ∷ [])
@@ -59,7 +61,9 @@ trigger_row object Table = None
 trigger_row object Procedure = None
 trigger_row object Function = None
 trigger_row object View = None
-trigger_row object Trigger = Some (Value object.name ∷ Value (table_of object.needs).name ∷ Value (decimal object.rank) ∷ [])
+trigger_row object Trigger =
+    Some (Value object.name ∷ Value (table_of_trigger object.needs).name
+    ∷ Value (decimal object.rank) ∷ [])
 trigger_row object Event = None
 
 -- ROUTINES: the name of each procedure and function, and which of the two it is
@@ -78,7 +82,8 @@ need_rows object Schema = []
 need_rows object Table = []
 need_rows object Procedure = []
 need_rows object Function = []
-need_rows object View = map (λ need. Value object.name ∷ Value need.schema ∷ Value need.name ∷ []) object.needs
+need_rows object View =
+    map (λ need. Value object.name ∷ Value need.schema ∷ Value need.name ∷ []) object.needs
 need_rows object Trigger = []
 need_rows object Event = []
 
@@ -93,8 +98,10 @@ event_row object Trigger = None
 event_row object Event = Some (Value object.name ∷ [])
 
 -- the rows of the objects of a schema
-abbrev pub rows_in_schema : (Object → Kind → Option (List Cell)) → Database → List ℕ → List (List Cell)
-rows_in_schema row database schema = filter_map (λ object. row object object.kind) (filter (is_in_schema schema) database.objects)
+abbrev pub rows_in_schema : (Object → Kind → Option (List Cell)) → Database → List ℕ →
+    List (List Cell)
+rows_in_schema row database schema =
+    filter_map (λ object. row object object.kind) (filter (is_in_schema schema) database.objects)
 
 -- the bytes hold these bytes at some place
 abbrev pub has_bytes : List ℕ → List ℕ → Bool
@@ -103,15 +110,18 @@ has_bytes needle (byte ∷ bytes) = starts_with nat_eq (byte ∷ bytes) needle |
 
 -- what EXTRA says of a generated column
 abbrev pub says_generated : List ℕ → Bool
-says_generated extra = has_bytes (codes "VIRTUAL GENERATED") extra || has_bytes (codes "STORED GENERATED") extra
+says_generated extra =
+    has_bytes (codes "VIRTUAL GENERATED") extra || has_bytes (codes "STORED GENERATED") extra
 
 -- COLUMNS: a column's name and type, whether it is generated, and, of a plain column of an integer type, whether it is unsigned. Only such
 -- a column can be a key. The type of another may hold the word 'unsigned' as a value of an enum, and its text as part of an expression.
 pub record IsColumnRow (column : Column) (row : List Cell) : Type 0 where
   pub column_type : List ℕ
   pub extra : List ℕ
-  pub row_is : row ≡ Value column.name ∷ Value column.data_type ∷ Value column_type ∷ Value extra ∷ []
-  pub unsigned : is_integer column.data_type ≡ true → column.generated ≡ false → has_bytes (codes "unsigned") column_type ≡ column.unsigned
+  pub row_is : row ≡ Value column.name ∷ Value column.data_type ∷ Value column_type ∷ Value extra
+      ∷ []
+  pub unsigned : is_integer column.data_type ≡ true → column.generated ≡ false →
+      has_bytes (codes "unsigned") column_type ≡ column.unsigned
   pub generated : says_generated extra ≡ column.generated
 
 -- one row for each column, in their order
@@ -143,7 +153,8 @@ WhereThere (Some object) P otherwise = P object
 
 -- SHOW CREATE DATABASE and SHOW CREATE TABLE: one row, whose second cell is the text of the object
 abbrev pub ShowsText : Object → List (List Cell) → Type 0
-ShowsText object rows = (first : Cell) × (more : List Cell) × (rows ≡ (first ∷ Value object.text ∷ more) ∷ [])
+ShowsText object rows =
+    (first : Cell) × (more : List Cell) × (rows ≡ (first ∷ Value object.text ∷ more) ∷ [])
 
 -- SHOW CREATE VIEW: one row, with the text second, and then the client character set and the collation that the view was made under
 pub record ShowsView (object : Object) (rows : List (List Cell)) : Type 0 where
@@ -151,7 +162,8 @@ pub record ShowsView (object : Object) (rows : List (List Cell)) : Type 0 where
   pub settings_are : object.settings ≡ Some settings
   pub first : Cell
   pub more : List Cell
-  pub rows_are : rows ≡ (first ∷ Value object.text ∷ Value settings.client ∷ Value settings.collation ∷ more) ∷ []
+  pub rows_are : rows ≡ (first ∷ Value object.text ∷ Value settings.client
+      ∷ Value settings.collation ∷ more) ∷ []
 
 -- the text of a routine or a trigger, in whose place NULL may stand
 pub record ShowsRoutine (object : Object) (rows : List (List Cell)) : Type 0 where
@@ -161,7 +173,8 @@ pub record ShowsRoutine (object : Object) (rows : List (List Cell)) : Type 0 whe
   pub text : Cell
   pub more : List Cell
   pub text_is : (text ≡ Value object.text) ⊎ (text ≡ Null)
-  pub rows_are : rows ≡ (first ∷ Value settings.sql_mode ∷ text ∷ Value settings.client ∷ Value settings.collation ∷ more) ∷ []
+  pub rows_are : rows ≡ (first ∷ Value settings.sql_mode ∷ text ∷ Value settings.client
+      ∷ Value settings.collation ∷ more) ∷ []
 
 -- the text of an event, in whose place NULL may stand, after its mode and its time zone
 pub record ShowsEvent (object : Object) (rows : List (List Cell)) : Type 0 where
@@ -171,7 +184,8 @@ pub record ShowsEvent (object : Object) (rows : List (List Cell)) : Type 0 where
   pub text : Cell
   pub more : List Cell
   pub text_is : (text ≡ Value object.text) ⊎ (text ≡ Null)
-  pub rows_are : rows ≡ (first ∷ Value settings.sql_mode ∷ Value settings.zone ∷ text ∷ Value settings.client ∷ Value settings.collation ∷ more) ∷ []
+  pub rows_are : rows ≡ (first ∷ Value settings.sql_mode ∷ Value settings.zone ∷ text
+      ∷ Value settings.client ∷ Value settings.collation ∷ more) ∷ []
 
 -- a bound that a key is above, and one that it is at most
 pub record Bounds : Type 0 where
@@ -189,9 +203,9 @@ is_up_to None number = true
 is_up_to (Some bound) number = int_le number bound
 
 -- the key is an integer that is greater than the one bound and at most the other, as far as there are bounds
-abbrev pub is_inside : Bounds → Option ℤ → Bool
-is_inside bounds None = false
-is_inside bounds (Some number) = is_above bounds.above number && is_up_to bounds.up_to number
+abbrev pub is_between : Bounds → Option ℤ → Bool
+is_between bounds None = false
+is_between bounds (Some number) = is_above bounds.above number && is_up_to bounds.up_to number
 
 -- each key is less than the next
 abbrev pub keys_rise : List (Option ℤ) → Bool
@@ -209,8 +223,11 @@ pub record HasKey (object : Object) (key : List ℕ) : Type 0 where
   pub name : column.name ≡ key
 
 -- the rows of the table whose key is inside the bounds, in the order of the key
-pub record AreInOrder (database : Database) (object : Object) (index : ℕ) (bounds : Bounds) (rows : List (List Cell)) : Type 0 where
-  pub same : IsSameBag rows (filter (λ row. is_inside bounds (integer_at object.columns index row)) (rows_of database object.schema object.name))
+pub record AreInOrder (database : Database) (object : Object) (index : ℕ) (bounds : Bounds)
+    (rows : List (List Cell)) : Type 0 where
+  pub same : IsSameBag rows
+      (filter (λ row. is_between bounds (integer_at object.columns index row))
+      (rows_of database object.schema object.name))
   pub rise : keys_rise (map (integer_at object.columns index) rows) ≡ true
 
 -- what a query for rows in the order of a key asks for
@@ -220,13 +237,15 @@ pub record RowsAsked : Type 0 where
   pub bounds : Bounds
 
 -- all plain columns were asked for, and the rows inside the bounds came
-pub record ShowsRows (database : Database) (object : Object) (asked : RowsAsked) (rows : List (List Cell)) : Type 0 where
+pub record ShowsRows (database : Database) (object : Object) (asked : RowsAsked)
+    (rows : List (List Cell)) : Type 0 where
   pub all_columns : asked.columns ≡ plain_names object.columns
   pub has_key : HasKey object asked.key
   pub in_order : AreInOrder database object has_key.index asked.bounds rows
 
 -- all plain columns were asked for, and all rows came, in any order
-pub record ShowsAll (database : Database) (object : Object) (columns : List (List ℕ)) (rows : List (List Cell)) : Type 0 where
+pub record ShowsAll (database : Database) (object : Object) (columns : List (List ℕ))
+    (rows : List (List Cell)) : Type 0 where
   pub all_columns : columns ≡ plain_names object.columns
   pub same : IsSameBag rows (rows_of database object.schema object.name)
 
@@ -241,11 +260,14 @@ pub record KeyAsked : Type 0 where
   pub skipped : ℕ
 
 -- the key after so many others that are above the bound, or none
-pub record ShowsKey (database : Database) (object : Object) (asked : KeyAsked) (rows : List (List Cell)) : Type 0 where
+pub record ShowsKey (database : Database) (object : Object) (asked : KeyAsked)
+    (rows : List (List Cell)) : Type 0 where
   pub has_key : HasKey object asked.key
   pub whole : List (List Cell)
-  pub in_order : AreInOrder database object has_key.index (record { above = asked.above; up_to = None }) whole
-  pub rows_are : rows ≡ filter_map (only_cell object.columns has_key.index) (take 1 (drop asked.skipped whole))
+  pub in_order : AreInOrder database object has_key.index
+      (record { above = asked.above; up_to = None }) whole
+  pub rows_are : rows ≡ filter_map (only_cell object.columns has_key.index)
+      (take 1 (drop asked.skipped whole))
 
 -- no bounds: every key that is an integer is inside
 abbrev pub everything : Bounds
@@ -267,48 +289,116 @@ ObjectShows found P = WhereThere found P ⊥
 abbrev pub Answers : Database → Query → List (List Cell) → Type 0
 Answers database MasterStatus rows = ⊥
 Answers database BinaryLogStatus rows = ⊥
-Answers database Schemas rows = IsSameBag rows (filter_map (λ object. schema_row object object.kind) database.objects)
+Answers database Schemas rows =
+    IsSameBag rows (filter_map (λ object. schema_row object object.kind) database.objects)
 Answers database (Tables schema) rows = IsSameBag rows (rows_in_schema table_row database schema)
-Answers database (ColumnsQuery schema table) rows = WhereThere (object_at database Table schema table) (λ object. AreColumnRows object.columns rows) (rows ≡ [])
-Answers database (PrimaryKey schema table) rows = WhereThere (object_at database Table schema table) (λ object. TellsKey object rows) (rows ≡ [])
-Answers database (Triggers schema) rows = IsSameBag rows (rows_in_schema trigger_row database schema)
-Answers database (Routines schema) rows = IsSameBag rows (rows_in_schema routine_row database schema)
-Answers database (ViewNeeds schema) rows = IsSameBag rows (flat_map (λ object. need_rows object object.kind) (filter (is_in_schema schema) database.objects))
+Answers database (ColumnsQuery schema table) rows =
+    WhereThere (object_at database Table schema table) (λ object. AreColumnRows object.columns rows)
+    (rows ≡ [])
+Answers database (PrimaryKey schema table) rows =
+    WhereThere (object_at database Table schema table) (λ object. TellsKey object rows) (rows ≡ [])
+Answers database (Triggers schema) rows =
+    IsSameBag rows (rows_in_schema trigger_row database schema)
+Answers database (Routines schema) rows =
+    IsSameBag rows (rows_in_schema routine_row database schema)
+Answers database (ViewNeeds schema) rows =
+    IsSameBag rows (flat_map (λ object. need_rows object object.kind)
+    (filter (is_in_schema schema) database.objects))
 Answers database (Events schema) rows = IsSameBag rows (rows_in_schema event_row database schema)
-Answers database (CreateDatabase schema) rows = ObjectShows (object_at database Schema schema schema) (λ object. ShowsText object rows)
-Answers database (CreateTable schema name) rows = ObjectShows (object_at database Table schema name) (λ object. ShowsText object rows)
-Answers database (CreateView schema name) rows = ObjectShows (object_at database View schema name) (λ object. ShowsView object rows)
-Answers database (CreateProcedure schema name) rows = ObjectShows (object_at database Procedure schema name) (λ object. ShowsRoutine object rows)
-Answers database (CreateFunction schema name) rows = ObjectShows (object_at database Function schema name) (λ object. ShowsRoutine object rows)
-Answers database (CreateTrigger schema name) rows = ObjectShows (object_at database Trigger schema name) (λ object. ShowsRoutine object rows)
-Answers database (CreateEvent schema name) rows = ObjectShows (object_at database Event schema name) (λ object. ShowsEvent object rows)
+Answers database (CreateDatabase schema) rows =
+    ObjectShows (object_at database Schema schema schema) (λ object. ShowsText object rows)
+Answers database (CreateTable schema name) rows =
+    ObjectShows (object_at database Table schema name) (λ object. ShowsText object rows)
+Answers database (CreateView schema name) rows =
+    ObjectShows (object_at database View schema name) (λ object. ShowsView object rows)
+Answers database (CreateProcedure schema name) rows =
+    ObjectShows (object_at database Procedure schema name) (λ object. ShowsRoutine object rows)
+Answers database (CreateFunction schema name) rows =
+    ObjectShows (object_at database Function schema name) (λ object. ShowsRoutine object rows)
+Answers database (CreateTrigger schema name) rows =
+    ObjectShows (object_at database Trigger schema name) (λ object. ShowsRoutine object rows)
+Answers database (CreateEvent schema name) rows =
+    ObjectShows (object_at database Event schema name) (λ object. ShowsEvent object rows)
 Answers database (Key key schema table skipped) rows =
-    TableShows database schema table (λ object. ShowsKey database object (record { key = key; above = None; skipped = skipped }) rows)
+    TableShows database schema table
+    (λ object. ShowsKey database object
+    (record { key = key; above = None; skipped = skipped }) rows)
 Answers database (KeyAbove key schema table above skipped) rows =
-    TableShows database schema table (λ object. ShowsKey database object (record { key = key; above = Some above; skipped = skipped }) rows)
-Answers database (Rows columns schema table) rows = TableShows database schema table (λ object. ShowsAll database object columns rows)
+    TableShows database schema table
+    (λ object. ShowsKey database object
+    (record { key = key; above = Some above; skipped = skipped }) rows)
+Answers database (Rows columns schema table) rows =
+    TableShows database schema table (λ object. ShowsAll database object columns rows)
 Answers database (RowsByKey columns schema table key) rows =
-    TableShows database schema table (λ object. ShowsRows database object (record { columns = columns; key = key; bounds = everything }) rows)
+    TableShows database schema table
+    (λ object. ShowsRows database object
+    (record { columns = columns; key = key; bounds = everything }) rows)
 Answers database (RowsAbove columns schema table key above) rows =
-    TableShows database schema table (λ object. ShowsRows database object (record { columns = columns; key = key; bounds = record { above = Some above; up_to = None } }) rows)
+    TableShows database schema table
+    (λ object. ShowsRows database object
+    (record {
+      columns = columns;
+      key = key;
+      bounds = record { above = Some above; up_to = None };
+    }) rows)
 Answers database (RowsUpTo columns schema table key up_to) rows =
-    TableShows database schema table (λ object. ShowsRows database object (record { columns = columns; key = key; bounds = record { above = None; up_to = Some up_to } }) rows)
+    TableShows database schema table
+    (λ object. ShowsRows database object
+    (record {
+      columns = columns;
+      key = key;
+      bounds = record { above = None; up_to = Some up_to };
+    }) rows)
 Answers database (RowsBetween columns schema table key above up_to) rows =
-    TableShows database schema table (λ object. ShowsRows database object (record { columns = columns; key = key; bounds = record { above = Some above; up_to = Some up_to } }) rows)
+    TableShows database schema table
+    (λ object. ShowsRows database object
+    (record {
+      columns = columns;
+      key = key;
+      bounds = record { above = Some above; up_to = Some up_to };
+    }) rows)
 Answers database (WideKey keys schema table skipped) rows =
-    TableShows database schema table (λ object. ShowsWideKey database object (record { keys = keys; above = None; skipped = skipped }) rows)
+    TableShows database schema table
+    (λ object. ShowsWideKey database object
+    (record { keys = keys; above = None; skipped = skipped }) rows)
 Answers database (WideKeyAbove keys schema table above skipped) rows =
-    TableShows database schema table (λ object. ShowsWideKey database object (record { keys = keys; above = Some above; skipped = skipped }) rows)
+    TableShows database schema table
+    (λ object. ShowsWideKey database object
+    (record { keys = keys; above = Some above; skipped = skipped }) rows)
 Answers database (RowsByWideKey columns schema table keys) rows =
-    TableShows database schema table (λ object. ShowsWideRows database object (record { columns = columns; keys = keys; bounds = no_bounds }) rows)
+    TableShows database schema table
+    (λ object. ShowsWideRows database object
+    (record { columns = columns; keys = keys; bounds = no_bounds }) rows)
 Answers database (RowsAboveWide columns schema table keys above) rows =
-    TableShows database schema table (λ object. ShowsWideRows database object (record { columns = columns; keys = keys; bounds = record { above = Some above; up_to = None } }) rows)
+    TableShows database schema table
+    (λ object. ShowsWideRows database object
+    (record {
+      columns = columns;
+      keys = keys;
+      bounds = record { above = Some above; up_to = None };
+    }) rows)
 Answers database (RowsUpToWide columns schema table keys up_to) rows =
-    TableShows database schema table (λ object. ShowsWideRows database object (record { columns = columns; keys = keys; bounds = record { above = None; up_to = Some up_to } }) rows)
+    TableShows database schema table
+    (λ object. ShowsWideRows database object
+    (record {
+      columns = columns;
+      keys = keys;
+      bounds = record { above = None; up_to = Some up_to };
+    }) rows)
 Answers database (RowsBetweenWide columns schema table keys above up_to) rows =
-    TableShows database schema table (λ object. ShowsWideRows database object (record { columns = columns; keys = keys; bounds = record { above = Some above; up_to = Some up_to } }) rows)
-Answers database ProgressDump rows = TableShows database progress_schema (codes "dump") (λ object. ShowsAll database object (codes "digest" ∷ []) rows)
-Answers database ProgressFiles rows = TableShows database progress_schema (codes "files") (λ object. ShowsAll database object (codes "name" ∷ []) rows)
+    TableShows database schema table
+    (λ object. ShowsWideRows database object
+    (record {
+      columns = columns;
+      keys = keys;
+      bounds = record { above = Some above; up_to = Some up_to };
+    }) rows)
+Answers database ProgressDump rows =
+    TableShows database progress_schema (codes "dump")
+    (λ object. ShowsAll database object (codes "digest" ∷ []) rows)
+Answers database ProgressFiles rows =
+    TableShows database progress_schema (codes "files")
+    (λ object. ShowsAll database object (codes "name" ∷ []) rows)
 
 -- a GTID set without the line feeds with which the server sends it
 abbrev pub without_line_feeds : List ℕ → List ℕ
@@ -320,7 +410,8 @@ pub record ShowsPosition (position : Position) (rows : List (List Cell)) : Type 
   pub fourth : Cell
   pub gtid : List ℕ
   pub more : List Cell
-  pub rows_are : rows ≡ (Value position.file ∷ Value (decimal position.offset) ∷ third ∷ fourth ∷ Value gtid ∷ more) ∷ []
+  pub rows_are : rows ≡ (Value position.file ∷ Value (decimal position.offset) ∷ third ∷ fourth
+      ∷ Value gtid ∷ more) ∷ []
   pub gtid_is : without_line_feeds gtid ≡ position.gtid
 
 -- SHOW MASTER STATUS and SHOW BINARY LOG STATUS: the row of the position where one is known, and else no row

@@ -14,7 +14,9 @@ use Rattle.sql_cells.specs.declared.cell.Cell.{Cell}
 
 -- what says a table's counter in its text: nothing, or the option AUTO_INCREMENT
 abbrev pub IsCounterOption : List ℕ → Type 0
-IsCounterOption bytes = (bytes ≡ []) ⊎ ((digits : List ℕ) × (is_digits digits ≡ true) × (bytes ≡ codes " AUTO_INCREMENT=" ++ digits))
+IsCounterOption bytes =
+    (bytes ≡ []) ⊎ ((digits : List ℕ) × (is_digits digits ≡ true)
+    × (bytes ≡ codes " AUTO_INCREMENT=" ++ digits))
 
 -- two texts of a table are the same but for this option, which says a greater counter in the second
 pub record RaisesCounter (old new : List ℕ) : Type 0 where
@@ -45,7 +47,8 @@ pub record IsRise (database : Database) (changes : List Change) : Type 0 where
   pub raises : RaisesCounter object.text text
   pub rows : List (List Cell)
   pub same_rows : IsSameBag rows (rows_of database object.schema object.name)
-  pub changes_are : changes ≡ Drop Table object.schema object.name ∷ Make (record object { text = text }) ∷ map (λ row. Put object.schema object.name row) rows
+  pub changes_are : changes ≡ Drop Table object.schema object.name
+      ∷ Make (record object { text = text }) ∷ map (λ row. Put object.schema object.name row) rows
 
 -- a row is put or taken out
 abbrev pub IsOfRow : Change → Type 0
@@ -57,13 +60,19 @@ IsOfRow (Remove schema table row) = Unit {0}
 -- the changes lead from one database to another, and each is of a row or part of a counter's rise
 pub data AreOfRows : Database → List Change → Database → Type 0 where
   no_more : {database : Database} → AreOfRows database [] database
-  a_row : {old middle new : Database} {change : Change} {changes : List Change} → IsOfRow change → change_db old change ≡ Some middle → AreOfRows middle changes new → AreOfRows old (change ∷ changes) new
-  a_rise : {old middle new : Database} {rise changes whole : List Change} → IsRise old rise → changes_db old rise ≡ Some middle → whole ≡ rise ++ changes → AreOfRows middle changes new → AreOfRows old whole new
+  a_row : {old middle new : Database} {change : Change} {changes : List Change} → IsOfRow change →
+      change_db old change ≡ Some middle → AreOfRows middle changes new →
+      AreOfRows old (change ∷ changes) new
+  a_rise : {old middle new : Database} {rise changes whole : List Change} → IsRise old rise →
+      changes_db old rise ≡ Some middle → whole ≡ rise ++ changes → AreOfRows middle changes new →
+      AreOfRows old whole new
 
 -- the same of the changes of transactions
 pub data KeepCatalogue : Database → List Transaction → Database → Type 0 where
   no_more : {database : Database} → KeepCatalogue database [] database
-  one_more : {old middle new : Database} {one : Transaction} {others : List Transaction} → AreOfRows old one.changes middle → KeepCatalogue middle others new → KeepCatalogue old (one ∷ others) new
+  one_more : {old middle new : Database} {one : Transaction} {others : List Transaction} →
+      AreOfRows old one.changes middle → KeepCatalogue middle others new →
+      KeepCatalogue old (one ∷ others) new
 
 -- after this history no object is made or dropped by these transactions
 pub record KeepsCatalogue (history more : List Transaction) : Type 0 where

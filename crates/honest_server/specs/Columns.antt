@@ -1,9 +1,10 @@
 -- The columns of tables, and the numbers in their cells (MySQL 8.0 Reference Manual, 13.1 "Numeric Data Types", 5.6.9 "Using AUTO_INCREMENT").
 use Rattle.std.specs.Prelude.{ℕ, ◌+◌, ◌*◌, ◌-◌, ◌^◌, ◌==◌, ◌&&◌, ◌||◌, not, if◌then◌else◌, Bool, true, false, List, [], ◌∷◌, take, take_while, fold, map, filter, slice_get, Option, Some, None, option_and_then, bytes_eq, codes, ℤ, pos, neg_ℤ, int_le, int_lt}
 use Rattle.std.specs.List.{list_any}
+use Rattle.plain_data.specs.Byte.{digits_value}
 use Rattle.object_forms.specs.Shape.{is_integer}
 use Rattle.object_forms.specs.declared.shape.Column.{Column}
-use Rattle.server_data.specs.Fold.{is_plain, plain_count}
+use Rattle.server_data.specs.Fold.{is_plain_column, plain_count}
 use Rattle.sql_cells.specs.Cell.{bytes_of}
 use Rattle.sql_cells.specs.Literal.{has_literal}
 use Rattle.sql_cells.specs.Number.{is_digits, is_number}
@@ -13,7 +14,9 @@ use Rattle.sql_cells.specs.declared.cell_kind.CellKind.TheVariants.{Number}
 
 -- types whose cells are numbers without an exponent: the integers, DECIMAL and YEAR; FLOAT, DOUBLE and BIT are none of them
 abbrev pub number_types : List (List ℕ)
-number_types = codes "tinyint" ∷ codes "smallint" ∷ codes "mediumint" ∷ codes "int" ∷ codes "bigint" ∷ codes "decimal" ∷ codes "year" ∷ []
+number_types =
+    codes "tinyint" ∷ codes "smallint" ∷ codes "mediumint" ∷ codes "int" ∷ codes "bigint"
+    ∷ codes "decimal" ∷ codes "year" ∷ []
 
 -- the type is one of these
 abbrev pub is_number_type : List ℕ → Bool
@@ -48,11 +51,12 @@ are_numbers (column ∷ columns) (cell ∷ cells) = has_number column cell && ar
 abbrev pub are_printed : (List ℕ → Bool) → List Column → List Cell → Bool
 are_printed prints [] cells = true
 are_printed prints (column ∷ columns) [] = true
-are_printed prints (column ∷ columns) (cell ∷ cells) = is_printed prints column cell && are_printed prints columns cells
+are_printed prints (column ∷ columns) (cell ∷ cells) =
+    is_printed prints column cell && are_printed prints columns cells
 
 -- the columns that rows have cells of
 abbrev pub plain_columns : List Column → List Column
-plain_columns columns = filter is_plain columns
+plain_columns columns = filter is_plain_column columns
 
 -- the names of the columns that rows have cells of, in their order
 abbrev pub plain_names : List Column → List (List ℕ)
@@ -62,28 +66,28 @@ plain_names columns = map (λ column. column.name) (plain_columns columns)
 abbrev pub cell_at : List Column → ℕ → List Cell → Option Cell
 cell_at columns index row = slice_get row (plain_count (take index columns))
 
--- the number that digits spell
-abbrev pub digits_value : List ℕ → ℕ
-digits_value digits = fold (λ n digit. n * 10 + (digit - 48)) 0 digits
-
 -- the integer that bytes spell: digits, and a minus before them where it is negative
 abbrev pub integer_of : List ℕ → Option ℤ
 integer_of [] = None
 integer_of (byte ∷ bytes) =
-    if byte == 45 then (if is_digits bytes then Some (neg_ℤ (pos (digits_value bytes))) else None) else
+    if byte == 45 then (if is_digits bytes then Some (neg_ℤ (pos (digits_value bytes))) else None)
+    else
     (if is_digits (byte ∷ bytes) then Some (pos (digits_value (byte ∷ bytes))) else None)
 
 -- the integer of a row in the column of this index
 abbrev pub integer_at : List Column → ℕ → List Cell → Option ℤ
-integer_at columns index row = option_and_then integer_of (option_and_then bytes_of (cell_at columns index row))
+integer_at columns index row =
+    option_and_then integer_of (option_and_then bytes_of (cell_at columns index row))
 
 -- the integer before the point of a number
 abbrev pub whole_of : List ℕ → Option ℤ
-whole_of bytes = if is_number bytes then integer_of (take_while (λ byte. not (byte == 46)) bytes) else None
+whole_of bytes =
+    if is_number bytes then integer_of (take_while (λ byte. not (byte == 46)) bytes) else None
 
 -- the same of a row in the column of this index
 abbrev pub whole_at : List Column → ℕ → List Cell → Option ℤ
-whole_at columns index row = option_and_then whole_of (option_and_then bytes_of (cell_at columns index row))
+whole_at columns index row =
+    option_and_then whole_of (option_and_then bytes_of (cell_at columns index row))
 
 -- how many bits an integer type has
 abbrev pub bits_of : List ℕ → ℕ
@@ -95,16 +99,23 @@ bits_of data_type =
 
 -- the least integer of a column of an integer type: 0 where it is unsigned
 abbrev pub least_of : Column → ℤ
-least_of column = if column.unsigned then pos 0 else neg_ℤ (pos (2 ^ (bits_of column.data_type - 1)))
+least_of column =
+    if column.unsigned then pos 0 else neg_ℤ (pos (2 ^ (bits_of column.data_type - 1)))
 
 -- the greatest integer of a column of an integer type, signed or unsigned as the column is
 abbrev pub greatest_of : Column → ℕ
-greatest_of column = if column.unsigned then 2 ^ bits_of column.data_type - 1 else 2 ^ (bits_of column.data_type - 1) - 1
+greatest_of column =
+    if column.unsigned then 2 ^ bits_of column.data_type - 1
+    else 2 ^ (bits_of column.data_type - 1) - 1
 
 -- an integer of the column's type
 abbrev pub is_in_type : Column → ℤ → Bool
-is_in_type column number = int_le (least_of column) number && int_le number (pos (greatest_of column))
+is_in_type column number =
+    int_le (least_of column) number && int_le number (pos (greatest_of column))
 
 -- An integer is under a counter where it is below it, or where it is the greatest of its integer type and the counter stands there.
 abbrev pub is_under : Column → ℕ → ℤ → Bool
-is_under column next number = int_lt number (pos next) || (is_integer column.data_type && (next == greatest_of column && (int_le number (pos next) && int_le (pos next) number)))
+is_under column next number =
+    int_lt number (pos next) ||
+    (is_integer column.data_type &&
+    (next == greatest_of column && (int_le number (pos next) && int_le (pos next) number)))

@@ -55,7 +55,9 @@ made_settings settings Event = Some settings
 
 -- the greatest rank of a table's triggers, and 0 where it has none
 abbrev pub greatest_rank : Database → Need → ℕ
-greatest_rank database table = fold (λ rank object. max rank object.rank) 0 (filter (is_on_table table.schema table.name) database.objects)
+greatest_rank database table =
+    fold (λ rank object. max rank object.rank) 0
+    (filter (is_on_table table.schema table.name) database.objects)
 
 -- a trigger that is made needs its table, and its rank is one more than the greatest of the triggers there
 pub record IsLastTrigger (database : Database) (object : Object) : Type 0 where
@@ -80,7 +82,8 @@ HasItsPlace database object Trigger = IsLastTrigger database object
 HasItsPlace database object Event = NeedsNothing object
 
 -- the object that a text makes on a link with these settings and this current schema
-pub record IsMade (state : State) (database : Database) (text : List ℕ) (object : Object) : Type 0 where
+pub record IsMade (state : State) (database : Database) (text : List ℕ)
+    (object : Object) : Type 0 where
   pub text_is : object.text ≡ text
   pub found : Making
   pub is_making : making text ≡ Some found
@@ -107,7 +110,8 @@ GoesInto state None changes new = Commits state changes new
 GoesInto state (Some before) changes new = new ≡ record state { pending = Some (before ++ changes) }
 
 -- the INSERT of this is made into a table
-pub record InsertsInto (state : State) (table : Need) (says : Insertion) (new : State) : Type 0 where
+pub record InsertsInto (state : State) (table : Need) (says : Insertion)
+    (new : State) : Type 0 where
   pub database : Database
   pub found : database_found_by state ≡ Some database
   pub changes : List Change
@@ -125,7 +129,11 @@ pub record InsertsText (state : State) (text : List ℕ) (new : State) : Type 0 
 
 -- one row of one text in a table of the load's progress
 abbrev pub one_text : List ℕ → List ℕ → Insertion
-one_text column text = record { columns = column ∷ []; rows = (record { cell = Value text; kind = Some Text } ∷ []) ∷ [] }
+one_text column text =
+    record {
+      columns = column ∷ [];
+      rows = (record { cell = Value text; kind = Some Text } ∷ []) ∷ [];
+    }
 
 -- the table of this name in the schema in which a load keeps its progress
 abbrev pub progress_table : List ℕ → Need
@@ -162,13 +170,17 @@ Effect state NamesBinary new = new ≡ state
 Effect state ForeignKeyChecksOff new = new ≡ state
 Effect state TimeZoneUtc new = new ≡ with_zone state (codes "+00:00")
 Effect state BinaryLogOff new = new ≡ state
-Effect state (SqlMode value) new = new ≡ record state { settings = record state.settings { sql_mode = value } }
-Effect state (CharacterSetClient value) new = new ≡ record state { settings = record state.settings { client = value } }
-Effect state (CollationConnection value) new = new ≡ record state { settings = record state.settings { collation = value } }
+Effect state (SqlMode value) new =
+    new ≡ record state { settings = record state.settings { sql_mode = value } }
+Effect state (CharacterSetClient value) new =
+    new ≡ record state { settings = record state.settings { client = value } }
+Effect state (CollationConnection value) new =
+    new ≡ record state { settings = record state.settings { collation = value } }
 Effect state RepeatableRead new = new ≡ state
 Effect state (TimeZone value) new = new ≡ with_zone state value
 Effect state LockInstance new = new ≡ record state { guarded = true }
-Effect state FlushTables new = new ≡ record state { frozen = true; grants = state.grants ++ state.seen ∷ [] }
+Effect state FlushTables new =
+    new ≡ record state { frozen = true; grants = state.grants ++ state.seen ∷ [] }
 Effect state UnlockTables new = new ≡ record state { frozen = false }
 Effect state UnlockInstance new = new ≡ record state { guarded = false }
 Effect state StartSnapshot new = TakesSnapshot state new
@@ -181,8 +193,10 @@ Effect state CreateProgress new = Creates state (command_text CreateProgress) ne
 Effect state CreateProgressFiles new = Creates state (command_text CreateProgressFiles) new
 Effect state CreateProgressDump new = Creates state (command_text CreateProgressDump) new
 Effect state (Insert text) new = InsertsText state text new
-Effect state (InsertProgressFile name) new = InsertsInto state (progress_table (codes "files")) (one_text (codes "name") name) new
-Effect state (InsertProgressDump digest) new = InsertsInto state (progress_table (codes "dump")) (one_text (codes "digest") digest) new
+Effect state (InsertProgressFile name) new =
+    InsertsInto state (progress_table (codes "files")) (one_text (codes "name") name) new
+Effect state (InsertProgressDump digest) new =
+    InsertsInto state (progress_table (codes "dump")) (one_text (codes "digest") digest) new
 
 -- the commands that commit an open transaction
 abbrev pub EndsTransaction : Command → Type 0

@@ -18,7 +18,7 @@ use Rattle.statement_forms.specs.declared.statement.Statement.TheVariants.{Comma
 use Rattle.honest_server.specs.Effect.{EndsOpen, EndsTransaction}
 use Rattle.honest_server.specs.Moves.{Way, SeesOthers}
 use Rattle.honest_server.specs.Serve.{Reply, Serves, GivesErr}
-use Rattle.honest_server.specs.Spelled.{Spells, SpellsDone, SpellsErr, IsLean}
+use Rattle.honest_server.specs.Spelled.{SpellsReply, SpellsDone, SpellsErr, IsLean}
 use Rattle.honest_server.specs.State.{Server, State, Phase, greeted, switching, in_session, over, with_others, with_error, closed_state}
 
 -- COM_QUERY: the byte 03 and the text of a statement
@@ -41,7 +41,8 @@ pub record IsGreeting (server : Server) (message : List ℕ) : Type 0 where
 abbrev pub AsksFor : List ℕ → List ℕ → Type 0
 AsksFor plugin message =
     ((plugin ≡ native_password) × (found : Switch) × (switch_of message ≡ Ok found))
-    ⊎ ((plugin ≡ native_password → ⊥) × (switch_of message ≡ Err (PluginUnsupported (kept_text plugin))))
+    ⊎ ((plugin ≡ native_password → ⊥)
+    × (switch_of message ≡ Err (PluginUnsupported (kept_text plugin))))
 
 -- the client's answer is awaited
 abbrev pub IsLoggingIn : Phase → Type 0
@@ -53,29 +54,47 @@ IsLoggingIn over = ⊥
 -- the payload is no text of a statement, and doesn't end the session
 pub record SpellsNothing (payload : List ℕ) : Type 0 where
   pub no_quit : payload ≡ quit_payload → ⊥
-  pub no_statement : (text : List ℕ) (statement : Statement) → payload ≡ query_payload text → IsTextOf statement text → ⊥
+  pub no_statement : (text : List ℕ) (statement : Statement) → payload ≡ query_payload text →
+      IsTextOf statement text → ⊥
 
 -- The server answers a payload, which is sent in this way, by these messages, and the link's state is then the second.
-pub data Replies (way : Way) (state : State) (payload : List ℕ) (messages : List (List ℕ)) (new : State) : Type 0 where
+pub data Replies (way : Way) (state : State) (payload : List ℕ) (messages : List (List ℕ))
+    (new : State) : Type 0 where
   -- the login is taken
-  accepted : IsLoggingIn state.phase → SpellsDone state.terms.server messages → new ≡ record state { phase = in_session } → Replies way state payload messages new
+  accepted : IsLoggingIn state.phase → SpellsDone state.terms.server messages →
+      new ≡ record state { phase = in_session } → Replies way state payload messages new
   -- an answer over another scramble is asked for, once
-  switched : (message : List ℕ) → state.phase ≡ greeted → AsksFor state.terms.server.plugin message → (state.terms.server.willing ≡ true → IsLean message) → messages ≡ message ∷ [] → new ≡ record state { phase = switching } → Replies way state payload messages new
+  switched : (message : List ℕ) → state.phase ≡ greeted →
+      AsksFor state.terms.server.plugin message →
+      (state.terms.server.willing ≡ true → IsLean message) → messages ≡ message ∷ [] →
+      new ≡ record state { phase = switching } → Replies way state payload messages new
   -- the login is refused, and the link is over
-  turned_away : (refusal : Refusal) → IsLoggingIn state.phase → state.terms.server.willing ≡ false → SpellsErr state.terms.server refusal messages → new ≡ record (with_error state (Some Connect) refusal) { phase = over } → Replies way state payload messages new
+  turned_away : (refusal : Refusal) → IsLoggingIn state.phase → state.terms.server.willing ≡ false →
+      SpellsErr state.terms.server refusal messages →
+      new ≡ record (with_error state (Some Connect) refusal) { phase = over } →
+      Replies way state payload messages new
   -- the session ends
-  quits : state.phase ≡ in_session → payload ≡ quit_payload → messages ≡ [] → new ≡ closed_state state → Replies way state payload messages new
+  quits : state.phase ≡ in_session → payload ≡ quit_payload → messages ≡ [] →
+      new ≡ closed_state state → Replies way state payload messages new
   -- a statement is served
-  served : (text : List ℕ) (statement : Statement) (reply : Reply) → state.phase ≡ in_session → payload ≡ query_payload text → IsReadAs text statement → Serves way state statement reply new → Spells state.terms.server statement reply messages → Replies way state payload messages new
+  served : (text : List ℕ) (statement : Statement) (reply : Reply) → state.phase ≡ in_session →
+      payload ≡ query_payload text → IsReadAs text statement →
+      Serves way state statement reply new →
+      SpellsReply state.terms.server statement reply messages →
+      Replies way state payload messages new
   -- anything else is answered by ERR
-  unknown : (refusal : Refusal) (more : List Transaction) → state.phase ≡ in_session → SpellsNothing payload → GivesErr state more None refusal new → SpellsErr state.terms.server refusal messages → Replies way state payload messages new
+  unknown : (refusal : Refusal) (more : List Transaction) → state.phase ≡ in_session →
+      SpellsNothing payload → GivesErr state more None refusal new →
+      SpellsErr state.terms.server refusal messages → Replies way state payload messages new
   -- once the link is over nothing is answered
-  ignored : state.phase ≡ over → messages ≡ [] → new ≡ state → Replies way state payload messages new
+  ignored : state.phase ≡ over → messages ≡ [] → new ≡ state →
+      Replies way state payload messages new
 
 -- the packets of messages one after the other, ids going on
 abbrev pub packets_from : ℕ → List (List ℕ) → List ℕ
 packets_from id [] = []
-packets_from id (message ∷ messages) = packets id message ++ packets_from (id_after (packet_count (length message)) id) messages
+packets_from id (message ∷ messages) =
+    packets id message ++ packets_from (id_after (packet_count (length message)) id) messages
 
 -- the sequence id that a client's message begins with: 0 of each command, and any in the login, where ids go on from the server's
 abbrev pub BeginsAt : Phase → ℕ → Type 0
@@ -95,12 +114,14 @@ abbrev pub IsWholeMessage : Phase → List ℕ → Type 0
 IsWholeMessage phase message = (payload : List ℕ) × IsMessage phase message payload
 
 -- one whole message of the client is answered by these bytes
-pub record Exchanges (way : Way) (state : State) (message reply : List ℕ) (new : State) : Type 0 where
+pub record Exchanges (way : Way) (state : State) (message reply : List ℕ)
+    (new : State) : Type 0 where
   pub payload : List ℕ
   pub is_message : IsMessage state.phase message payload
   pub messages : List (List ℕ)
   pub replies : Replies way state payload messages new
-  pub reply_is : reply ≡ packets_from (id_after (packet_count (length payload)) is_message.id) messages
+  pub reply_is : reply ≡ packets_from
+      (id_after (packet_count (length payload)) is_message.id) messages
 
 -- of a command that ends an open transaction, only that was done
 pub record CommitsAlone (state : State) (message : List ℕ) (new : State) : Type 0 where

@@ -5,7 +5,7 @@ use Rattle.object_forms.specs.Shape.{TableCounter, counter}
 use Rattle.object_forms.specs.declared.kind.Kind.TheVariants.{Table, Trigger}
 use Rattle.object_forms.specs.declared.shape.Column.{Column}
 use Rattle.server_data.specs.Equal.{kind_eq}
-use Rattle.server_data.specs.Fold.{table_of, rows_of}
+use Rattle.server_data.specs.Fold.{table_of_trigger, rows_of}
 use Rattle.server_data.specs.History.{Interleaves}
 use Rattle.server_data.specs.declared.data.Change.{Change}
 use Rattle.server_data.specs.declared.data.Change.TheVariants.{Put}
@@ -36,8 +36,8 @@ pub record Insertion : Type 0 where
   pub rows : List (List SpelledCell)
 
 -- the cells of a row, however they were spelled
-abbrev pub cells_of : List SpelledCell → List Cell
-cells_of row = map (λ spelled. spelled.cell) row
+abbrev pub plain_cells : List SpelledCell → List Cell
+plain_cells row = map (λ spelled. spelled.cell) row
 
 -- the bytes are a literal of this kind, which spells this cell
 pub record SpellsCell (bytes : List ℕ) (spelled : SpelledCell) : Type 0 where
@@ -46,23 +46,33 @@ pub record SpellsCell (bytes : List ℕ) (spelled : SpelledCell) : Type 0 where
 
 -- literals with commas between them spell these cells
 pub data SpellsCells : List ℕ → List SpelledCell → Type 0 where
-  last_cell : {bytes : List ℕ} {cell : SpelledCell} → SpellsCell bytes cell → SpellsCells bytes (cell ∷ [])
-  next_cell : {bytes rest whole : List ℕ} {cell : SpelledCell} {cells : List SpelledCell} → SpellsCell bytes cell → SpellsCells rest cells → whole ≡ bytes ++ codes "," ++ rest → SpellsCells whole (cell ∷ cells)
+  last_cell : {bytes : List ℕ} {cell : SpelledCell} → SpellsCell bytes cell →
+      SpellsCells bytes (cell ∷ [])
+  next_cell : {bytes rest whole : List ℕ} {cell : SpelledCell} {cells : List SpelledCell} →
+      SpellsCell bytes cell → SpellsCells rest cells → whole ≡ bytes ++ codes "," ++ rest →
+      SpellsCells whole (cell ∷ cells)
 
 -- such literals between parentheses, with a comma and a line feed between them, spell these rows
 pub data SpellsRows : List ℕ → List (List SpelledCell) → Type 0 where
-  last_row : {cells whole : List ℕ} {row : List SpelledCell} → SpellsCells cells row → whole ≡ codes "(" ++ cells ++ codes ")" → SpellsRows whole (row ∷ [])
-  next_row : {cells rest whole : List ℕ} {row : List SpelledCell} {rows : List (List SpelledCell)} → SpellsCells cells row → SpellsRows rest rows → whole ≡ codes "(" ++ cells ++ codes "),\n" ++ rest → SpellsRows whole (row ∷ rows)
+  last_row : {cells whole : List ℕ} {row : List SpelledCell} → SpellsCells cells row →
+      whole ≡ codes "(" ++ cells ++ codes ")" → SpellsRows whole (row ∷ [])
+  next_row : {cells rest whole : List ℕ} {row : List SpelledCell} {rows : List (List SpelledCell)} →
+      SpellsCells cells row → SpellsRows rest rows →
+      whole ≡ codes "(" ++ cells ++ codes "),\n" ++ rest → SpellsRows whole (row ∷ rows)
 
 -- an INSERT into this table says this
 pub record SpellsInsert (text table : List ℕ) (says : Insertion) : Type 0 where
   pub body : List ℕ
-  pub text_is : text ≡ codes "INSERT INTO " ++ quoted_name table ++ codes " (" ++ names says.columns ++ codes ") VALUES\n" ++ body
+  pub text_is : text ≡ codes "INSERT INTO " ++ quoted_name table ++ codes " (" ++ names says.columns
+      ++ codes ") VALUES\n" ++ body
   pub spells : SpellsRows body says.rows
 
 -- the object is a trigger on this table
 abbrev pub is_on_table : List ℕ → List ℕ → Object → Bool
-is_on_table schema table object = kind_eq object.kind Trigger && (bytes_eq (table_of object.needs).schema schema && bytes_eq (table_of object.needs).name table)
+is_on_table schema table object =
+    kind_eq object.kind Trigger &&
+    (bytes_eq (table_of_trigger object.needs).schema schema && bytes_eq
+    (table_of_trigger object.needs).name table)
 
 -- the table has a trigger
 abbrev pub has_trigger : Database → List ℕ → List ℕ → Bool
@@ -76,16 +86,20 @@ is_under_where column next (Some number) = is_under column next number
 -- the AUTO_INCREMENT column is there, and the row's number in it is under the counter
 abbrev pub is_under_counter : List Column → TableCounter → Option Column → List Cell → Bool
 is_under_counter columns counter None row = false
-is_under_counter columns counter (Some column) row = is_under_where column counter.next (whole_at columns counter.column row)
+is_under_counter columns counter (Some column) row =
+    is_under_where column counter.next (whole_at columns counter.column row)
 
 -- each row's number in the AUTO_INCREMENT column is under the counter, where the table has one
 abbrev pub are_under : List Column → Option TableCounter → List (List Cell) → Bool
 are_under columns None rows = true
-are_under columns (Some counter) rows = list_all (is_under_counter columns counter (slice_get columns counter.column)) rows
+are_under columns (Some counter) rows =
+    list_all (is_under_counter columns counter (slice_get columns counter.column)) rows
 
 -- a table without a trigger takes rows that are under its counter as they are
 abbrev pub is_plain_insert : Database → Object → List (List Cell) → Bool
-is_plain_insert database object rows = not (has_trigger database object.schema object.name) && are_under object.columns (counter object.text) rows
+is_plain_insert database object rows =
+    not (has_trigger database object.schema object.name) && are_under object.columns
+    (counter object.text) rows
 
 -- the changes that put these rows into the table, one for each row, in their order
 abbrev pub puts_of : Object → List (List Cell) → List Change
@@ -105,26 +119,33 @@ is_converted (Some Converted) = true
 
 -- a cell of a JSON column is NULL, or is spelled as a JSON text that the server prints; no cell of another column is spelled so
 abbrev pub is_spelled_for : (List ℕ → Bool) → Column → SpelledCell → Bool
-is_spelled_for prints column spelled = if is_json column then is_null spelled.cell || (is_converted spelled.kind && is_printed prints column spelled.cell) else not (is_converted spelled.kind)
+is_spelled_for prints column spelled =
+    if is_json column then is_null spelled.cell ||
+    (is_converted spelled.kind && is_printed prints column spelled.cell)
+    else not (is_converted spelled.kind)
 
 -- the row has a cell for each column, spelled as the column takes it: JSON texts by CONVERT and no others
 abbrev pub are_spelled_for : (List ℕ → Bool) → List Column → List SpelledCell → Bool
 are_spelled_for prints [] [] = true
 are_spelled_for prints [] (cell ∷ cells) = false
 are_spelled_for prints (column ∷ columns) [] = false
-are_spelled_for prints (column ∷ columns) (cell ∷ cells) = is_spelled_for prints column cell && are_spelled_for prints columns cells
+are_spelled_for prints (column ∷ columns) (cell ∷ cells) =
+    is_spelled_for prints column cell && are_spelled_for prints columns cells
 
 -- What an INSERT into a table changes in a database. Whether it fits is judged of the rows that it spells. Beside these rows, further changes
 -- of rows and rises of counters may be made, but not by a plain INSERT.
-pub record Inserts (server : Server) (database : Database) (table : Need) (says : Insertion) (changes : List Change) : Type 0 where
+pub record Inserts (server : Server) (database : Database) (table : Need) (says : Insertion)
+    (changes : List Change) : Type 0 where
   pub object : Object
   pub is_there : object_at database Table table.schema table.name ≡ Some object
   pub all_columns : says.columns ≡ plain_names object.columns
   pub rows : List (List Cell)
-  pub rows_are : rows ≡ map cells_of says.rows
+  pub rows_are : rows ≡ map plain_cells says.rows
   pub numbers : All (λ row. are_numbers (plain_columns object.columns) row ≡ true) rows
-  pub spelled : All (λ row. are_spelled_for server.prints (plain_columns object.columns) row ≡ true) says.rows
-  pub keys : HasKeysWhere object.columns object.key (rows_of database table.schema table.name ++ rows)
+  pub spelled : All (λ row. are_spelled_for server.prints (plain_columns object.columns) row ≡ true)
+      says.rows
+  pub keys : HasKeysWhere object.columns object.key
+      (rows_of database table.schema table.name ++ rows)
   pub puts : StandAmong (puts_of object rows) changes
   pub plain : is_plain_insert database object rows ≡ true → changes ≡ puts_of object rows
   pub new : Database

@@ -24,7 +24,8 @@ abbrev pub TellsNoMore : Bool → Bool → Type 0
 TellsNoMore old new = new ≡ true → old ≡ true
 
 -- the message was handled, and the reply's bytes wait
-pub record IsExchanged (way : Way) (old : ServedLink) (message : List ℕ) (new : ServedLink) : Type 0 where
+pub record IsExchanged (way : Way) (old : ServedLink) (message : List ℕ)
+    (new : ServedLink) : Type 0 where
   pub reply : List ℕ
   pub exchanges : Exchanges way old.state message reply new.state
   pub waits : new.waiting ≡ old.waiting ++ reply
@@ -37,13 +38,16 @@ CommitsAloneBy plainly state message new = CommitsAlone state message new
 CommitsAloneBy (beside holder) state message new = ⊥
 
 -- the link failed at a message: it was handled whole, or only its commit, or not at all
-pub record Breaks (way : Way) (old : ServedLink) (message : List ℕ) (new : ServedLink) : Type 0 where
+pub record Breaks (way : Way) (old : ServedLink) (message : List ℕ)
+    (new : ServedLink) : Type 0 where
   pub failed : new.failed ≡ true
   pub wide : TellsNoMore old.keeps_wide new.keeps_wide
-  pub left : ((reply : List ℕ) × Exchanges way old.state message reply new.state) ⊎ (CommitsAloneBy way old.state message new.state ⊎ (new.state ≡ old.state))
+  pub left : ((reply : List ℕ) × Exchanges way old.state message reply new.state)
+      ⊎ (CommitsAloneBy way old.state message new.state ⊎ (new.state ≡ old.state))
 
 -- A message is sent: it is handled, or the link fails. One that has failed before fails again, and nothing changes.
-pub record SendsTo {T E : Type 0} (way : Way) (old : ServedLink) (message : List ℕ) (result : Result T E) (new : ServedLink) : Type 0 where
+pub record SendsTo {T E : Type 0} (way : Way) (old : ServedLink) (message : List ℕ)
+    (result : Result T E) (new : ServedLink) : Type 0 where
   pub ok : OnOk result ((old.failed ≡ false) × IsExchanged way old message new)
   pub err : OnErr result (old.failed ≡ false → Breaks way old message new)
   pub dead : old.failed ≡ true → new ≡ old
@@ -53,13 +57,15 @@ abbrev pub Sends : {T E : Type 0} → ServedLink → List ℕ → Result T E →
 Sends old message result new = SendsTo plainly old message result new
 
 -- Beside a holder of the read lock. The holder has seen what the link has, or the link fails.
-pub record SendsBeside {T E : Type 0} (holder : State) (old : ServedLink) (message : List ℕ) (result : Result T E) (new : ServedLink) : Type 0 where
+pub record SendsBeside {T E : Type 0} (holder : State) (old : ServedLink) (message : List ℕ)
+    (result : Result T E) (new : ServedLink) : Type 0 where
   pub sends : SendsTo (beside holder) old message result new
   pub after : OnOk result (IsPrefix old.state.seen holder.seen)
 
 -- the message is no object's text
 abbrev pub IsNoCreate : List ℕ → Type 0
-IsNoCreate message = (id : ℕ) (text : List ℕ) → message ≡ packets id (query_payload text) → HasHead text → ⊥
+IsNoCreate message =
+    (id : ℕ) (text : List ℕ) → message ≡ packets id (query_payload text) → HasHead text → ⊥
 
 -- what a client's message on a link in this state has to be: whole packets with the right ids, and in a session that isn't alone no object's text
 pub record MaySend (state : State) (message : List ℕ) : Type 0 where
@@ -73,7 +79,8 @@ pub record MayStandBeside (holder sender : ServedLink) : Type 0 where
   pub none_mine : sender.state.mine ≡ []
 
 -- at least one byte was taken off what waits, and nothing else has changed
-pub record TakesOff (old : ServedLink) (buffer : List ℕ) (count : ℕ) (new : ServedLink) : Type 0 where
+pub record TakesOff (old : ServedLink) (buffer : List ℕ) (count : ℕ)
+    (new : ServedLink) : Type 0 where
   pub some : 0 < count
   pub fits : count ≤ length buffer
   pub bytes : take count buffer ++ new.waiting ≡ old.waiting
@@ -82,7 +89,8 @@ pub record TakesOff (old : ServedLink) (buffer : List ℕ) (count : ℕ) (new : 
   pub wide : new.keeps_wide ≡ old.keeps_wide
 
 -- bytes are taken off what waits, or the link fails; one that has failed before fails again
-pub record Receives {E : Type 0} (old : ServedLink) (buffer : List ℕ) (result : Result ℕ E) (new : ServedLink) : Type 0 where
+pub record Receives {E : Type 0} (old : ServedLink) (buffer : List ℕ) (result : Result ℕ E)
+    (new : ServedLink) : Type 0 where
   pub ok : IfOk result (λ count. (old.failed ≡ false) × TakesOff old buffer count new)
   pub err : OnErr result (new ≡ record old { failed = true })
 

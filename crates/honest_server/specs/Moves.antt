@@ -9,7 +9,8 @@ use Rattle.honest_server.specs.State.{State}
 pub record MayFollow (state : State) (more : List Transaction) : Type 0 where
   pub frozen : state.frozen ≡ true → more ≡ []
   pub guarded : state.guarded ≡ true → KeepsCatalogue state.seen more
-  pub catalogue : state.terms.server.quiet ≡ true → state.terms.sole ≡ false → KeepsCatalogue state.seen more
+  pub catalogue : state.terms.server.quiet ≡ true → state.terms.sole ≡ false →
+      KeepsCatalogue state.seen more
 
 -- What a link may come to see of others at a plain statement. Where nobody else writes, a sole link sees nothing of others, and
 -- neither does any link of a willing site.
@@ -35,6 +36,6 @@ Sees plainly state more = SeesOthers state more
 Sees (beside holder) state more = SeesHolder holder state more
 
 -- what the link has seen once it is handled: beside a holder, just what the holder has
-abbrev pub Ends : Way → State → Type 0
-Ends plainly new = Unit {0}
-Ends (beside holder) new = new.seen ≡ holder.seen
+abbrev pub SeesAfter : Way → State → Type 0
+SeesAfter plainly new = Unit {0}
+SeesAfter (beside holder) new = new.seen ≡ holder.seen

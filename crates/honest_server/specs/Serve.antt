@@ -16,7 +16,7 @@ use Rattle.statement_forms.specs.declared.statement.Statement.{Statement}
 use Rattle.statement_forms.specs.declared.statement.Statement.TheVariants.{Command as SomeCommand, Query as SomeQuery}
 use Rattle.honest_server.specs.Answer.{Answers, ShowsMark, tells_text}
 use Rattle.honest_server.specs.Effect.{Effect}
-use Rattle.honest_server.specs.Moves.{Way, plainly, beside, Sees, SeesOthers, Ends}
+use Rattle.honest_server.specs.Moves.{Way, plainly, beside, Sees, SeesOthers, SeesAfter}
 use Rattle.honest_server.specs.State.{State, has_master_status, with_others, with_error}
 
 -- a reply: OK, rows, or an ERR, after some rows or none
@@ -45,7 +45,8 @@ pub record ShowsStatus (has : Bool) (state : State) (found : List (List Cell)) :
 
 -- every query but the two for the position is answered over a database; `Answers` lists them all
 abbrev pub QueryServed : State → Query → List (List Cell) → Type 0
-QueryServed state MasterStatus found = ShowsStatus (has_master_status state.terms.server) state found
+QueryServed state MasterStatus found =
+    ShowsStatus (has_master_status state.terms.server) state found
 QueryServed state BinaryLogStatus found = ShowsStatus state.terms.server.newer state found
 QueryServed state query found = IsAnswered state query found
 
@@ -63,24 +64,30 @@ abbrev pub MayLose : Option (List Change) → Option (List Change) → Type 0
 MayLose old new = (new ≡ old) ⊎ (new ≡ None)
 
 -- the statement is handled, once the link has seen what it comes to see
-pub record IsHandled (way : Way) (state : State) (statement : Statement) (reply : Reply) (new : State) : Type 0 where
+pub record IsHandled (way : Way) (state : State) (statement : Statement) (reply : Reply)
+    (new : State) : Type 0 where
   pub more : List Transaction
   pub sees : Sees way state more
   pub handles : Handles (with_others state more) statement reply new
-  pub ends : Ends way new
+  pub ends : SeesAfter way new
 
 -- no reply but an ERR can be given to the statement: plainly at this state, and beside a holder at what the holder has seen
 abbrev pub FitsNowhere : Way → State → Statement → List Transaction → Type 0
-FitsNowhere plainly state statement more = (reply : Reply) (new : State) → Handles (with_others state more) statement reply new → ⊥
-FitsNowhere (beside holder) state statement more = (reply : Reply) (new : State) → IsHandled (beside holder) state statement reply new → ⊥
+FitsNowhere plainly state statement more =
+    (reply : Reply) (new : State) → Handles (with_others state more) statement reply new → ⊥
+FitsNowhere (beside holder) state statement more =
+    (reply : Reply) (new : State) → IsHandled (beside holder) state statement reply new → ⊥
 
 -- the rows that came before an ERR are the first of an answer to the query, and none of any other statement
 abbrev pub CameBefore : State → Statement → List (List Cell) → Type 0
 CameBefore state (SomeCommand command) found = found ≡ []
-CameBefore state (SomeQuery query) found = (found ≡ []) ⊎ ((whole : List (List Cell)) × QueryServed state query whole × IsPrefix found whole)
+CameBefore state (SomeQuery query) found =
+    (found ≡ []) ⊎ ((whole : List (List Cell)) × QueryServed state query whole
+    × IsPrefix found whole)
 
 -- An ERR is given. It changes nothing else, but an open transaction may be lost.
-pub record GivesErr (state : State) (more : List Transaction) (form : Option Form) (refusal : Refusal) (new : State) : Type 0 where
+pub record GivesErr (state : State) (more : List Transaction) (form : Option Form)
+    (refusal : Refusal) (new : State) : Type 0 where
   pub sees : SeesOthers state more
   pub pending : Option (List Change)
   pub lost : MayLose state.pending pending
@@ -92,7 +99,8 @@ pub record ErrAfter : Type 0 where
   pub refusal : Refusal
 
 -- A statement is answered by ERR. A willing server does so only where it can't be handled.
-pub record Refuses (way : Way) (state : State) (statement : Statement) (err : ErrAfter) (new : State) : Type 0 where
+pub record Refuses (way : Way) (state : State) (statement : Statement) (err : ErrAfter)
+    (new : State) : Type 0 where
   pub more : List Transaction
   pub gives : GivesErr state more (Some (form_of statement)) err.refusal new
   pub before : CameBefore (with_others state more) statement err.found
@@ -100,6 +108,7 @@ pub record Refuses (way : Way) (state : State) (statement : Statement) (err : Er
 
 -- The server may answer the statement on a link in one state by this reply, and the link is then in the other.
 abbrev pub Serves : Way → State → Statement → Reply → State → Type 0
-Serves way state statement (refused found refusal) new = Refuses way state statement (record { found = found; refusal = refusal }) new
+Serves way state statement (refused found refusal) new =
+    Refuses way state statement (record { found = found; refusal = refusal }) new
 Serves way state statement done new = IsHandled way state statement done new
 Serves way state statement (rows found) new = IsHandled way state statement (rows found) new

@@ -97,7 +97,8 @@ site_after_return old state new = record old {
 }
 
 -- a link came back, and so many are still out
-pub record TakesBack (left : ℕ) (old : ServedSite) (link : ServedLink) (new : ServedSite) : Type 0 where
+pub record TakesBack (left : ℕ) (old : ServedSite) (link : ServedLink)
+    (new : ServedSite) : Type 0 where
   pub grows : IsPrefix old.history new.history
   pub own : GathersOrSettles left old link.state new
   pub wide : TellsNoMore old.keeps_wide new.keeps_wide
@@ -109,7 +110,9 @@ pub record TakesBack (left : ℕ) (old : ServedSite) (link : ServedLink) (new : 
 pub record StaysHonest (left : ℕ) (old : ServedSite) (state : State) : Type 0 where
   pub one : List Transaction
   pub grants : All (λ (grant : List Transaction). IsPrefix grant one) (old.grants ++ state.grants)
-  pub sound : old.server.quiet ≡ true → left ≡ 0 → (whole : List Transaction) → Interleaves (old.returned ++ state.mine ∷ []) whole → IsSound old.server (old.history ++ whole)
+  pub sound : old.server.quiet ≡ true → left ≡ 0 → (whole : List Transaction) →
+      Interleaves (old.returned ++ state.mine ∷ []) whole →
+      IsSound old.server (old.history ++ whole)
 
 -- of every honest site with so many links out: its history and each grant are sound; once none is out, each grant is a prefix of it, and nothing is left to be told
 pub record IsSettled (out : ℕ) (site : ServedSite) : Type 0 where

@@ -3,7 +3,7 @@ use Rattle.std.specs.Prelude.{ℕ, ◌≡◌, ◌≤◌, ◌+◌, ◌*◌, ◌�
 use Rattle.wire_forms.specs.Reading.{definition, row, refused as refused_turn, awaited_count, columns_counted}
 use Rattle.wire_forms.specs.Reply.{reply_of}
 use Rattle.wire_forms.specs.ResultSet.{IsResultSet, turns_of}
-use Rattle.wire_forms.specs.Row.{Cell as SentCell}
+use Rattle.plain_data.specs.Cell.{Cell as SentCell}
 use Rattle.wire_forms.specs.declared.refusal.Refusal.{Refusal}
 use Rattle.wire_forms.specs.declared.reply.Reply.TheVariants.{Done, Refused, Columns}
 use Rattle.sql_cells.specs.Cell.{bytes_of}
@@ -37,27 +37,31 @@ row_size cells = sum_by cell_size cells
 
 -- how many bytes the file and the GTID set have in the row of a position, without line feeds
 abbrev pub file_and_gtid : List Cell → ℕ
-file_and_gtid (Value file ∷ offset ∷ third ∷ fourth ∷ Value gtid ∷ more) = length file + length (without_line_feeds gtid)
+file_and_gtid (Value file ∷ offset ∷ third ∷ fourth ∷ Value gtid ∷ more) =
+    length file + length (without_line_feeds gtid)
 file_and_gtid cells = 0
 
 -- how many bytes the text has in a row of SHOW CREATE DATABASE or SHOW CREATE TABLE
-abbrev pub text_size : List Cell → ℕ
-text_size (first ∷ text ∷ more) = cell_size text
-text_size cells = 0
+abbrev pub shown_text_size : List Cell → ℕ
+shown_text_size (first ∷ text ∷ more) = cell_size text
+shown_text_size cells = 0
 
 -- how many bytes the text, the client character set and the collation have together in a row of SHOW CREATE VIEW
 abbrev pub view_size : List Cell → ℕ
-view_size (first ∷ text ∷ client ∷ collation ∷ more) = cell_size text + cell_size client + cell_size collation
+view_size (first ∷ text ∷ client ∷ collation ∷ more) =
+    cell_size text + cell_size client + cell_size collation
 view_size cells = 0
 
 -- the same of the mode, the text, the client character set and the collation of a procedure, a function or a trigger
 abbrev pub routine_size : List Cell → ℕ
-routine_size (first ∷ mode ∷ text ∷ client ∷ collation ∷ more) = cell_size mode + cell_size text + cell_size client + cell_size collation
+routine_size (first ∷ mode ∷ text ∷ client ∷ collation ∷ more) =
+    cell_size mode + cell_size text + cell_size client + cell_size collation
 routine_size cells = 0
 
 -- the same of the mode, the time zone, the text, the client character set and the collation in a row of SHOW CREATE EVENT
 abbrev pub event_size : List Cell → ℕ
-event_size (first ∷ mode ∷ zone ∷ text ∷ client ∷ collation ∷ more) = cell_size mode + cell_size zone + cell_size text + cell_size client + cell_size collation
+event_size (first ∷ mode ∷ zone ∷ text ∷ client ∷ collation ∷ more) =
+    cell_size mode + cell_size zone + cell_size text + cell_size client + cell_size collation
 event_size cells = 0
 
 -- how many bytes the name and the DATA_TYPE have together in a row of COLUMNS
@@ -77,8 +81,8 @@ taken_size (Triggers schema) cells = row_size cells
 taken_size (Routines schema) cells = row_size cells
 taken_size (ViewNeeds schema) cells = row_size cells
 taken_size (Events schema) cells = row_size cells
-taken_size (CreateDatabase schema) cells = text_size cells
-taken_size (CreateTable schema name) cells = text_size cells
+taken_size (CreateDatabase schema) cells = shown_text_size cells
+taken_size (CreateTable schema name) cells = shown_text_size cells
 taken_size (CreateView schema name) cells = view_size cells
 taken_size (CreateProcedure schema name) cells = routine_size cells
 taken_size (CreateFunction schema name) cells = routine_size cells
@@ -105,14 +109,16 @@ abbrev pub AreLeanRows : Query → List (List ℕ) → List (List Cell) → Type
 AreLeanRows query [] [] = Unit {0}
 AreLeanRows query [] (cells ∷ found) = ⊥
 AreLeanRows query (message ∷ messages) [] = ⊥
-AreLeanRows query (message ∷ messages) (cells ∷ found) = (length message ≤ own_limit + taken_size query cells) × AreLeanRows query messages found
+AreLeanRows query (message ∷ messages) (cells ∷ found) =
+    (length message ≤ own_limit + taken_size query cells) × AreLeanRows query messages found
 
 -- a message in front of the rows is lean but for the names that the query asks for, each of which it may say five times
 abbrev pub IsLeanFront : Query → List ℕ → Type 0
 IsLeanFront query message = length message ≤ own_limit + 5 * length (query_text query)
 
 -- the messages are those in front of the rows, which are the number of columns, their definitions and perhaps an EOF, those of the rows, and the last
-pub record IsLeanSet (query : Query) (found : List (List Cell)) (messages : List (List ℕ)) : Type 0 where
+pub record IsLeanSet (query : Query) (found : List (List Cell))
+    (messages : List (List ℕ)) : Type 0 where
   pub front : List (List ℕ)
   pub row_messages : List (List ℕ)
   pub last : List ℕ
@@ -126,7 +132,8 @@ abbrev pub sent_rows : List (List Cell) → List (List SentCell)
 sent_rows found = map (map bytes_of) found
 
 -- whole rows
-pub record SpellsRowsOf (server : Server) (query : Query) (found : List (List Cell)) (messages : List (List ℕ)) : Type 0 where
+pub record SpellsRowsOf (server : Server) (query : Query) (found : List (List Cell))
+    (messages : List (List ℕ)) : Type 0 where
   pub columns : ℕ
   pub is_set : IsResultSet server.ends columns (sent_rows found) messages
   pub lean : server.willing ≡ true → IsLeanSet query found messages
@@ -139,13 +146,16 @@ pub record SpellsErr (server : Server) (refusal : Refusal) (messages : List (Lis
   pub lean : server.willing ≡ true → IsLean message
 
 -- an ERR after some rows of a query
-pub record BreaksOff (server : Server) (query : Query) (found : List (List Cell)) (refusal : Refusal) (messages : List (List ℕ)) : Type 0 where
+pub record BreaksOff (server : Server) (query : Query) (found : List (List Cell))
+    (refusal : Refusal) (messages : List (List ℕ)) : Type 0 where
   pub columns : ℕ
   pub first : List ℕ
   pub others : List (List ℕ)
   pub messages_are : messages ≡ first ∷ others
   pub counts : reply_of first ≡ Some (Columns columns)
-  pub turns : turns_of (columns_counted server.ends columns) others ≡ replicate (awaited_count server.ends columns) definition ++ (map row (sent_rows found) ++ refused_turn refusal ∷ [])
+  pub turns : turns_of (columns_counted server.ends columns) others
+      ≡ replicate (awaited_count server.ends columns) definition
+      ++ (map row (sent_rows found) ++ refused_turn refusal ∷ [])
   pub lean : server.willing ≡ true → IsLeanSet query found messages
 
 -- one message, which is an OK
@@ -157,13 +167,18 @@ pub record SpellsDone (server : Server) (messages : List (List ℕ)) : Type 0 wh
 
 -- an ERR alone, or after the front of a result set
 abbrev pub SpellsRefusal : Server → Query → List (List Cell) → Refusal → List (List ℕ) → Type 0
-SpellsRefusal server query found refusal messages = ((found ≡ []) × SpellsErr server refusal messages) ⊎ BreaksOff server query found refusal messages
+SpellsRefusal server query found refusal messages =
+    ((found ≡ []) × SpellsErr server refusal messages)
+    ⊎ BreaksOff server query found refusal messages
 
 -- these messages of a server spell the reply to a statement
-abbrev pub Spells : Server → Statement → Reply → List (List ℕ) → Type 0
-Spells server (SomeCommand command) done messages = SpellsDone server messages
-Spells server (SomeCommand command) (rows found) messages = ⊥
-Spells server (SomeCommand command) (refused found refusal) messages = SpellsErr server refusal messages
-Spells server (SomeQuery query) done messages = ⊥
-Spells server (SomeQuery query) (rows found) messages = SpellsRowsOf server query found messages
-Spells server (SomeQuery query) (refused found refusal) messages = SpellsRefusal server query found refusal messages
+abbrev pub SpellsReply : Server → Statement → Reply → List (List ℕ) → Type 0
+SpellsReply server (SomeCommand command) done messages = SpellsDone server messages
+SpellsReply server (SomeCommand command) (rows found) messages = ⊥
+SpellsReply server (SomeCommand command) (refused found refusal) messages =
+    SpellsErr server refusal messages
+SpellsReply server (SomeQuery query) done messages = ⊥
+SpellsReply server (SomeQuery query) (rows found) messages =
+    SpellsRowsOf server query found messages
+SpellsReply server (SomeQuery query) (refused found refusal) messages =
+    SpellsRefusal server query found refusal messages

@@ -71,7 +71,9 @@ open_changes (Some changes) = changes
 
 -- the database as the link's own statements find it: after what it has seen, and its open transaction
 abbrev pub database_found_by : State → Option Database
-database_found_by state = option_and_then (λ (database : Database). changes_db database (open_changes state.pending)) (db state.seen)
+database_found_by state =
+    option_and_then (λ (database : Database). changes_db database (open_changes state.pending))
+    (db state.seen)
 
 -- the link has seen these transactions of others
 abbrev pub with_others : State → List Transaction → State
@@ -79,11 +81,13 @@ with_others state more = record state { seen = state.seen ++ more }
 
 -- it has committed this one
 abbrev pub with_own : State → Transaction → State
-with_own state one = record state { seen = state.seen ++ one ∷ []; mine = state.mine ++ one ∷ []; pending = None }
+with_own state one =
+    record state { seen = state.seen ++ one ∷ []; mine = state.mine ++ one ∷ []; pending = None }
 
 -- the link was answered by this ERR, to a statement of this form, or to what is no statement
 abbrev pub with_error : State → Option Form → Refusal → State
-with_error state form refusal = record state { errors = state.errors ++ record { form = form; refusal = refusal } ∷ [] }
+with_error state form refusal =
+    record state { errors = state.errors ++ record { form = form; refusal = refusal } ∷ [] }
 
 -- the locks and the open transaction are gone
 abbrev pub closed_state : State → State

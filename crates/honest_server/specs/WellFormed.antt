@@ -91,15 +91,19 @@ HasItsTable database object Table = Unit {0}
 HasItsTable database object Procedure = Unit {0}
 HasItsTable database object Function = Unit {0}
 HasItsTable database object View = Unit {0}
-HasItsTable database object Trigger = (table : Need) × NeedsItsTable object table × (has_object database Table table.schema table.name ≡ true)
+HasItsTable database object Trigger =
+    (table : Need) × NeedsItsTable object table
+    × (has_object database Table table.schema table.name ≡ true)
 HasItsTable database object Event = Unit {0}
 
 -- the key of each row is an integer of its column's type, and no two rows have the same
 pub record HasKeys (columns : List Column) (index : ℕ) (rows : List (List Cell)) : Type 0 where
   pub column : Column
   pub column_is : slice_get columns index ≡ Some column
-  pub integers : All (λ row. IfSome (integer_at columns index row) (λ number. is_in_type column number ≡ true) × (integer_at columns index row ≢ None)) rows
-  pub distinct : AllPairs (λ one other. integer_at columns index one ≢ integer_at columns index other) rows
+  pub integers : All (λ row. IfSome (integer_at columns index row)
+      (λ number. is_in_type column number ≡ true) × (integer_at columns index row ≢ None)) rows
+  pub distinct : AllPairs
+      (λ one other. integer_at columns index one ≢ integer_at columns index other) rows
 
 -- where the table has a key, each row's is an integer of its column's type, and no two rows have the same
 abbrev pub HasKeysWhere : List Column → Option ℕ → List (List Cell) → Type 0
@@ -107,15 +111,18 @@ HasKeysWhere columns None rows = Unit {0}
 HasKeysWhere columns (Some index) rows = HasKeys columns index rows
 
 -- each cell of the AUTO_INCREMENT column is a number under the table's counter
-pub record IsCounted (columns : List Column) (counter : TableCounter) (rows : List (List Cell)) : Type 0 where
+pub record IsUnderCounter (columns : List Column) (counter : TableCounter)
+    (rows : List (List Cell)) : Type 0 where
   pub column : Column
   pub column_is : slice_get columns counter.column ≡ Some column
-  pub integers : All (λ row. IfSome (whole_at columns counter.column row) (λ number. is_under column counter.next number ≡ true) × (whole_at columns counter.column row ≢ None)) rows
+  pub integers : All (λ row. IfSome (whole_at columns counter.column row)
+      (λ number. is_under column counter.next number ≡ true)
+      × (whole_at columns counter.column row ≢ None)) rows
 
 -- where the table has an AUTO_INCREMENT column, each cell of it is a number under the table's counter
 abbrev pub IsCountedWhere : List Column → Option TableCounter → List (List Cell) → Type 0
 IsCountedWhere columns None rows = Unit {0}
-IsCountedWhere columns (Some found) rows = IsCounted columns found rows
+IsCountedWhere columns (Some found) rows = IsUnderCounter columns found rows
 
 -- the rows of a table are as its columns have them
 pub record HasGoodRows (object : Object) (rows : List (List Cell)) : Type 0 where
@@ -126,7 +133,8 @@ pub record HasGoodRows (object : Object) (rows : List (List Cell)) : Type 0 wher
 -- where the object is a table, its rows are as its columns have them
 abbrev pub HasGoodRowsWhere : Database → Object → Kind → Type 0
 HasGoodRowsWhere database object Schema = Unit {0}
-HasGoodRowsWhere database object Table = HasGoodRows object (rows_of database object.schema object.name)
+HasGoodRowsWhere database object Table =
+    HasGoodRows object (rows_of database object.schema object.name)
 HasGoodRowsWhere database object Procedure = Unit {0}
 HasGoodRowsWhere database object Function = Unit {0}
 HasGoodRowsWhere database object View = Unit {0}
@@ -160,7 +168,10 @@ is_visible byte = nat_le 32 byte && nat_le byte 126
 
 -- a position of the binary log can be written on lines: it has a file, the bytes of its file and of its GTID set are visible, and its offset has 64 bits
 abbrev pub can_be_written : Position → Bool
-can_be_written position = not (is_empty position.file) && (list_all is_visible position.file && (list_all is_visible position.gtid && nat_lt position.offset (2 ^ 64)))
+can_be_written position =
+    not (is_empty position.file) &&
+    (list_all is_visible position.file &&
+    (list_all is_visible position.gtid && nat_lt position.offset (2 ^ 64)))
 
 -- the position after the transaction can be written on lines, where one is known
 abbrev pub HasGoodMark : Transaction → Type 0
@@ -168,7 +179,9 @@ HasGoodMark one = IfSome one.mark (λ position. can_be_written position ≡ true
 
 -- each JSON text in the rows of an object, which only a table has, is one that the server prints
 abbrev pub IsPrinted : (List ℕ → Bool) → Database → Object → Type 0
-IsPrinted prints database object = All (λ row. are_printed prints (plain_columns object.columns) row ≡ true) (rows_of database object.schema object.name)
+IsPrinted prints database object =
+    All (λ row. are_printed prints (plain_columns object.columns) row ≡ true)
+    (rows_of database object.schema object.name)
 
 -- the history ends in a well-formed database, whose JSON texts are as the server prints them, and its marks can be written
 pub record IsSound (server : Server) (history : List Transaction) : Type 0 where

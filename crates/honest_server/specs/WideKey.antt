@@ -28,7 +28,8 @@ is_plain_integer column = not column.generated && is_integer column.data_type
 -- two to four plain columns of integer types
 abbrev pub are_wide : Option (List Column) → Bool
 are_wide None = false
-are_wide (Some columns) = nat_le 2 (length columns) && (nat_le (length columns) 4 && list_all is_plain_integer columns)
+are_wide (Some columns) =
+    nat_le 2 (length columns) && (nat_le (length columns) 4 && list_all is_plain_integer columns)
 
 -- these indices, where they are of two to four plain columns of integer types
 abbrev pub wide_where : List Column → List ℕ → Option (List ℕ)
@@ -46,7 +47,8 @@ integers_at columns indices row = all_of (map (λ index. integer_at columns inde
 abbrev pub comes_first : List ℤ → List ℤ → Bool
 comes_first numbers [] = false
 comes_first [] (next ∷ others) = true
-comes_first (number ∷ numbers) (next ∷ others) = int_lt number next || (int_le number next && comes_first numbers others)
+comes_first (number ∷ numbers) (next ∷ others) =
+    int_lt number next || (int_le number next && comes_first numbers others)
 
 -- bounds that a wide key is above, and at most
 pub record WideBounds : Type 0 where
@@ -76,7 +78,8 @@ is_within bounds (Some numbers) = is_after bounds.above numbers && is_not_after 
 abbrev pub wide_keys_rise : List (Option (List ℤ)) → Bool
 wide_keys_rise [] = true
 wide_keys_rise (one ∷ []) = true
-wide_keys_rise (Some one ∷ Some next ∷ keys) = comes_first one next && wide_keys_rise (Some next ∷ keys)
+wide_keys_rise (Some one ∷ Some next ∷ keys) =
+    comes_first one next && wide_keys_rise (Some next ∷ keys)
 wide_keys_rise (None ∷ next ∷ keys) = false
 wide_keys_rise (Some one ∷ None ∷ keys) = false
 
@@ -89,8 +92,11 @@ pub record HasWideKey (object : Object) (keys : List (List ℕ)) : Type 0 where
   pub names : map (λ column. column.name) columns ≡ keys
 
 -- the rows of the table whose wide key is inside the bounds, in the order of the key
-pub record AreInWideOrder (database : Database) (object : Object) (indices : List ℕ) (bounds : WideBounds) (rows : List (List Cell)) : Type 0 where
-  pub same : IsSameBag rows (filter (λ row. is_within bounds (integers_at object.columns indices row)) (rows_of database object.schema object.name))
+pub record AreInWideOrder (database : Database) (object : Object) (indices : List ℕ)
+    (bounds : WideBounds) (rows : List (List Cell)) : Type 0 where
+  pub same : IsSameBag rows
+      (filter (λ row. is_within bounds (integers_at object.columns indices row))
+      (rows_of database object.schema object.name))
   pub rise : wide_keys_rise (map (integers_at object.columns indices) rows) ≡ true
 
 -- what a query for rows in the order of a wide key asks for
@@ -100,7 +106,8 @@ pub record WideRowsAsked : Type 0 where
   pub bounds : WideBounds
 
 -- all plain columns were asked for, and the rows inside the bounds came
-pub record ShowsWideRows (database : Database) (object : Object) (asked : WideRowsAsked) (rows : List (List Cell)) : Type 0 where
+pub record ShowsWideRows (database : Database) (object : Object) (asked : WideRowsAsked)
+    (rows : List (List Cell)) : Type 0 where
   pub all_columns : asked.columns ≡ plain_names object.columns
   pub has_key : HasWideKey object asked.keys
   pub in_order : AreInWideOrder database object has_key.indices asked.bounds rows
@@ -116,30 +123,41 @@ abbrev pub key_cells : List Column → List ℕ → List Cell → Option (List C
 key_cells columns indices row = all_of (map (λ index. cell_at columns index row) indices)
 
 -- the key after so many others that are above the bound, or none
-pub record ShowsWideKey (database : Database) (object : Object) (asked : WideKeyAsked) (rows : List (List Cell)) : Type 0 where
+pub record ShowsWideKey (database : Database) (object : Object) (asked : WideKeyAsked)
+    (rows : List (List Cell)) : Type 0 where
   pub has_key : HasWideKey object asked.keys
   pub whole : List (List Cell)
-  pub in_order : AreInWideOrder database object has_key.indices (record { above = asked.above; up_to = None }) whole
-  pub rows_are : rows ≡ filter_map (key_cells object.columns has_key.indices) (take 1 (drop asked.skipped whole))
+  pub in_order : AreInWideOrder database object has_key.indices
+      (record { above = asked.above; up_to = None }) whole
+  pub rows_are : rows ≡ filter_map (key_cells object.columns has_key.indices)
+      (take 1 (drop asked.skipped whole))
 
 -- each integer is one of its column's type
 abbrev pub are_in_types : List Column → List ℤ → Bool
 are_in_types [] [] = true
 are_in_types [] (number ∷ numbers) = false
 are_in_types (column ∷ columns) [] = false
-are_in_types (column ∷ columns) (number ∷ numbers) = is_in_type column number && are_in_types columns numbers
+are_in_types (column ∷ columns) (number ∷ numbers) =
+    is_in_type column number && are_in_types columns numbers
 
 -- the wide key of each row is integers of their columns' types, and no two rows have the same
 pub record HasWideKeys (object : Object) (indices : List ℕ) (rows : List (List Cell)) : Type 0 where
   pub columns : List Column
   pub columns_are : columns_at object.columns indices ≡ Some columns
-  pub integers : All (λ row. IfSome (integers_at object.columns indices row) (λ numbers. are_in_types columns numbers ≡ true) × (integers_at object.columns indices row ≢ None)) rows
-  pub distinct : AllPairs (λ one other. integers_at object.columns indices one ≢ integers_at object.columns indices other) rows
+  pub integers : All (λ row. IfSome (integers_at object.columns indices row)
+      (λ numbers. are_in_types columns numbers ≡ true)
+      × (integers_at object.columns indices row ≢ None)) rows
+  pub distinct : AllPairs
+      (λ one other. integers_at object.columns indices one
+      ≢ integers_at object.columns indices other) rows
 
 -- the same of a table's rows, where it has a wide key
 abbrev pub KeepsWideKey : Database → Object → Type 0
-KeepsWideKey database object = IfSome (wide_key object) (λ indices. HasWideKeys object indices (rows_of database object.schema object.name))
+KeepsWideKey database object =
+    IfSome (wide_key object)
+    (λ indices. HasWideKeys object indices (rows_of database object.schema object.name))
 
 -- all wide keys of the database after a history are such
 abbrev pub KeepsWideKeys : List Transaction → Type 0
-KeepsWideKeys history = IfSome (db history) (λ database. All (KeepsWideKey database) database.objects)
+KeepsWideKeys history =
+    IfSome (db history) (λ database. All (KeepsWideKey database) database.objects)

@@ -10,8 +10,8 @@ pub record File : Type 0 where
   pub bytes : List ℕ
 
 -- the names of the files, in the order of the files
-abbrev pub names : List File → List (List ℕ)
-names files = map (λ file. file.name) files
+abbrev pub file_names : List File → List (List ℕ)
+file_names files = map (λ file. file.name) files
 
 -- whether the file has this name
 abbrev pub is_named : List ℕ → File → Bool
@@ -22,9 +22,10 @@ abbrev pub has_name : List ℕ → List File → Bool
 has_name name files = list_any (is_named name) files
 
 -- the bytes of the first file of this name, if there is one
-abbrev pub bytes_of : List File → List ℕ → Option (List ℕ)
-bytes_of [] name = None
-bytes_of (first ∷ others) name = if is_named name first then Some first.bytes else bytes_of others name
+abbrev pub contents_of : List File → List ℕ → Option (List ℕ)
+contents_of [] name = None
+contents_of (first ∷ others) name =
+    if is_named name first then Some first.bytes else contents_of others name
 
 -- no two of the files have one name
 abbrev pub HaveOwnNames : List File → Type 0
@@ -33,12 +34,13 @@ HaveOwnNames (file ∷ files) = (has_name file.name files ≡ false) × HaveOwnN
 
 -- the names of these files, each as often as it stands, in the order of their bytes
 pub record IsListing (found : List (List ℕ)) (files : List File) : Type 0 where
-  pub same : IsPermutation found (names files)
+  pub same : IsPermutation found (file_names files)
   pub sorted : IsSorted (slice_cmp nat_cmp) found
 
 -- no name of the one stands in the other
-abbrev pub AreApart : List File → List File → Type 0
-AreApart files others = (name : List ℕ) → Contains (names files) name → Contains (names others) name → ⊥
+abbrev pub ShareNoName : List File → List File → Type 0
+ShareNoName files others =
+    (name : List ℕ) → Contains (file_names files) name → Contains (file_names others) name → ⊥
 
 -- the bytes of an open file: those that were read, and those that are left
 pub record OpenFile : Type 0 where

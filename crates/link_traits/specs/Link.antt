@@ -29,7 +29,8 @@ others (list ∷ lists) = lists
 
 -- a link at its start: the first bytes of its conversation wait
 abbrev pub told_at_start : List (List ℕ) → Told
-told_at_start conversation = record { sent = []; waiting = first conversation; coming = others conversation; failed = false }
+told_at_start conversation =
+    record { sent = []; waiting = first conversation; coming = others conversation; failed = false }
 
 -- the message was sent, and the next bytes wait too
 abbrev pub told_after_send : Told → List ℕ → Told
@@ -45,13 +46,14 @@ abbrev pub told_after_failure : Told → Told
 told_after_failure old = record old { failed = true }
 
 -- a send is answered, or the link fails; one that has failed before fails again
-pub record Sends {T E : Type 0} (old : Told) (message : List ℕ) (result : Result T E) (new : Told) : Type 0 where
+pub record SendsAsTold {T E : Type 0} (old : Told) (message : List ℕ) (result : Result T E)
+    (new : Told) : Type 0 where
   pub alive : OnOk result (old.failed ≡ false)
   pub ok : OnOk result (new ≡ told_after_send old message)
   pub err : OnErr result (new ≡ told_after_failure old)
 
 -- so many bytes were taken off what waits
-pub record TakesOff (old : Told) (buffer : List ℕ) (count : ℕ) (new : Told) : Type 0 where
+pub record TakesOffAsTold (old : Told) (buffer : List ℕ) (count : ℕ) (new : Told) : Type 0 where
   pub alive : old.failed ≡ false
   pub bytes : old.waiting ≡ take count buffer ++ new.waiting
   pub sent : new.sent ≡ old.sent
@@ -59,8 +61,9 @@ pub record TakesOff (old : Told) (buffer : List ℕ) (count : ℕ) (new : Told) 
   pub still_alive : new.failed ≡ false
 
 -- bytes are taken off what waits, or the link fails; one that has failed before fails again
-pub record Receives {E : Type 0} (old : Told) (buffer : List ℕ) (result : Result ℕ E) (new : Told) : Type 0 where
-  pub ok : IfOk result (λ count. TakesOff old buffer count new)
+pub record ReceivesAsTold {E : Type 0} (old : Told) (buffer : List ℕ) (result : Result ℕ E)
+    (new : Told) : Type 0 where
+  pub ok : IfOk result (λ count. TakesOffAsTold old buffer count new)
   pub err : OnErr result (new ≡ told_after_failure old)
 
 -- at least one byte was taken, and no more than there is room for
@@ -69,7 +72,8 @@ pub record IsWithin (room : List ℕ) (count : ℕ) : Type 0 where
   pub fits : count ≤ length room
 
 -- what a call of a link keeps: whether it is honest, and whether it tells what is said on it; and it stays a link of its site.
-pub record StaysLink {L : Type 0} (honest tells : L → Type 0) (same_origin : L → L → Type 0) (old new : L) : Type 0 where
+pub record StaysLink {L : Type 0} (honest tells : L → Type 0) (same_origin : L → L → Type 0)
+    (old new : L) : Type 0 where
   pub still_honest : honest old ↔ honest new
   pub still_tells : tells old ↔ tells new
   pub origin : same_origin old new

@@ -33,14 +33,17 @@ abbrev pub told_after_return : SiteTold → List (List ℕ) → SiteTold
 told_after_return old sent = record old { sent = old.sent ++ sent ∷ [] }
 
 -- a link tells what is said on it, and begins with this conversation
-pub record Begins (tells : Type 0) (told : Told) (conversation : List (List ℕ)) : Type 0 where
+pub record BeginsConversation (tells : Type 0) (told : Told)
+    (conversation : List (List ℕ)) : Type 0 where
   pub is_told : tells
   pub begins : told ≡ told_at_start conversation
 
 -- a connection was asked for, and the link that was given begins with the next conversation
-pub record ConnectsTold {L E : Type 0} (tells : L → Type 0) (told : L → Told) (old : SiteTold) (result : Result L E) (new : SiteTold) : Type 0 where
+pub record ConnectsTold {L E : Type 0} (tells : L → Type 0) (told : L → Told) (old : SiteTold)
+    (result : Result L E) (new : SiteTold) : Type 0 where
   pub site : new ≡ told_after_connect old
-  pub link : IfOk result (λ link. Begins (tells link) (told link) (next_of old.conversations))
+  pub link : IfOk result (λ link. BeginsConversation (tells link) (told link)
+      (next_of old.conversations))
 
 -- what a call keeps: whether the site is honest, and whether it tells what is said on its links
 pub record StaysSite {S : Type 0} (honest tells : S → Type 0) (old new : S) : Type 0 where
@@ -58,7 +61,8 @@ pub record OwnsMore {L E : Type 0} (old new : L → Type 0) (result : Result L E
   pub others : (link : L) → old link → new link
 
 -- one link more is out, which is alone or not; at a failure as many as before, and none is alone
-pub record TakesLink {L E : Type 0} (sole : Bool) (old : Links) (result : Result L E) (new : Links) : Type 0 where
+pub record TakesLink {L E : Type 0} (sole : Bool) (old : Links) (result : Result L E)
+    (new : Links) : Type 0 where
   pub ok : OnOk result (new ≡ record { out = old.out + 1; sole = sole })
   pub err : OnErr result (new ≡ record { out = old.out; sole = false })
 

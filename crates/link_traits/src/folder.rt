@@ -3,7 +3,7 @@ ghost use Rattle.std.specs.Prelude.{◌≡◌, ◌<◌, ◌≤◌, ◌+◌, ◌-
 ghost use Rattle.std.specs.Cmp.Lexicographic.{slice_cmp};
 ghost use Rattle.std.specs.Ordering.{nat_cmp};
 ghost use Rattle.link_traits.specs.Cause.{Rose, HasCause};
-ghost use Rattle.link_traits.specs.Contents.{File, ShelfTold, names, HaveOwnNames, IsSoundShelf, IsListing, AreApart};
+ghost use Rattle.link_traits.specs.Contents.{File, ShelfTold, file_names, HaveOwnNames, IsSoundShelf, IsListing, ShareNoName};
 ghost use Rattle.link_traits.specs.Folder.{BeginsFile, BeginsEmpty, AddsBytes, EndsFile, OpensFile, none_read, ReadsOff, CountsRead, IsIdle, IsNewShelf, CountsOut, RenamesFile};
 
 use plain_data::{NameList, OutOfMemory};
@@ -49,7 +49,8 @@ pub trait Shelf: Drop {
     /// this name. A failure begins none.
     fn create(&mut self, name: &str) -> Result<(), FolderFailed>
         requires none_begun { is_begun self.old ≡ false }
-        requires new_name { tells self.old → Contains (names (told self.old).made) name.now → ⊥ }
+        requires new_name { tells self.old → Contains (file_names (told self.old).made) name.now →
+            ⊥ }
 
         ensures tells { tells self.old ↔ tells self.new }
         ensures told { tells self.old → BeginsFile (told self.old) name.now result (told self.new) }
@@ -159,7 +160,7 @@ pub trait Folder {
     /// failure leaves the contents as they were. The files that a shelf has made are in the folder
     /// once the shelf was taken back, and aren't renamed before that.
     fn rename(&mut self, from: &str, to: &str) -> Result<(), FolderFailed>
-        requires there { tells self.old → Contains (names (contents self.old)) from.now }
+        requires there { tells self.old → Contains (file_names (contents self.old)) from.now }
 
         ensures tells { tells self.old ↔ tells self.new }
         ensures contents { tells self.old →
@@ -187,7 +188,7 @@ pub trait Folder {
     fn take_back(&mut self, shelf: Self::Shelf)
         requires out { 0 < out self.old }
         requires new_names { tells self.old →
-            AreApart (Self.Shelf.told shelf).made (contents self.old) }
+            ShareNoName (Self.Shelf.told shelf).made (contents self.old) }
 
         ensures tells { tells self.old ↔ tells self.new }
         ensures contents { tells self.old →

@@ -2,7 +2,7 @@
 ghost use Rattle.std.specs.Prelude.{◌≡◌, ◌≢◌, ◌<◌, ℕ, [], true, false, length, IfOk};
 ghost use Rattle.honest_server.specs.Link.{ServedLink, IsSoundLink, MaySend, MayStandBeside, Receives as TakesServed, Sends as IsServed, SendsBeside};
 ghost use Rattle.link_traits.specs.Cause.{HasCause};
-ghost use Rattle.link_traits.specs.Link.{Told, IsWithin, Receives, Sends, StaysLink};
+ghost use Rattle.link_traits.specs.Link.{Told, IsWithin, ReceivesAsTold, SendsAsTold, StaysLink};
 
 use thiserror::Error;
 
@@ -41,7 +41,8 @@ pub trait Link: Drop {
         ensures stays { StaysLink honest tells same_origin self.old self.new }
         ensures served { honest self.old →
             IsServed (served self.old) message.now result (served self.new) }
-        ensures sent { tells self.old → Sends (told self.old) message.now result (told self.new) }
+        ensures sent { tells self.old →
+            SendsAsTold (told self.old) message.now result (told self.new) }
         ensures cause { HasCause (faults self.old) (faults self.new) result };
 
     /// Sends one message while a link that holds the read lock is lent: the server handles it at what
@@ -56,7 +57,8 @@ pub trait Link: Drop {
         ensures stays { StaysLink honest tells same_origin self.old self.new }
         ensures served { honest self.old → SendsBeside (served holder.now).state (served self.old)
             message.now result (served self.new) }
-        ensures sent { tells self.old → Sends (told self.old) message.now result (told self.new) }
+        ensures sent { tells self.old →
+            SendsAsTold (told self.old) message.now result (told self.new) }
         ensures cause { HasCause (faults self.old) (faults self.new) result };
 
     /// Takes some of the bytes that wait, at least one, into the front of the buffer, and answers how
@@ -71,7 +73,7 @@ pub trait Link: Drop {
         ensures served { honest self.old →
             TakesServed (served self.old) buffer.new result (served self.new) }
         ensures received { tells self.old →
-            Receives (told self.old) buffer.new result (told self.new) }
+            ReceivesAsTold (told self.old) buffer.new result (told self.new) }
         ensures within { IfOk result (λ count. IsWithin buffer.old count) }
         ensures cause { HasCause (faults self.old) (faults self.new) result };
 

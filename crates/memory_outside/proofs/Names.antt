@@ -8,7 +8,7 @@ use Rattle.std.proofs.lemmas.List.Folds.{list_any-append, list_any_at}
 use Rattle.std.proofs.lemmas.List.Concat.{flat_map-append}
 use Rattle.std.proofs.lemmas.List.{get_or-map, length-map}
 use Rattle.std.proofs.lemmas.Slice.Eq.{slice_eq-Decides}
-use Rattle.link_traits.specs.Contents.{File, names, is_named, has_name, HaveOwnNames, AreApart}
+use Rattle.link_traits.specs.Contents.{File, file_names, is_named, has_name, HaveOwnNames, ShareNoName}
 use Rattle.link_traits.specs.Folder.{without, with_name, files_after_rename}
 use Rattle.memory_outside.specs.Memory.{with_file}
 
@@ -39,12 +39,12 @@ own_names_pushed (first ∷ files) file own new =
     (here, own_names_pushed files file own.1 apart.1)
 
 -- a name that stands in the files is among their names
-pub named : (name : List ℕ) (files : List File) → has_name name files ≡ true → Contains (names files) name
+pub named : (name : List ℕ) (files : List File) → has_name name files ≡ true → Contains (file_names files) name
 named name [] h = absurd (true≢false (sym h))
 named name (file ∷ files) h =
-    elim (is_named name file) as (λ b. is_named name file ≡ b → (b || has_name name files) ≡ true → Contains (names (file ∷ files)) name) [
+    elim (is_named name file) as (λ b. is_named name file ≡ b → (b || has_name name files) ≡ true → Contains (file_names (file ∷ files)) name) [
       | true ↦ λ e _. (0, omega arith, (same file.name name).0 e)
-      | false ↦ λ _ t. Contains-append_right (file.name ∷ []) (names files) name (named name files t)
+      | false ↦ λ _ t. Contains-append_right (file.name ∷ []) (file_names files) name (named name files t)
     ] refl h
 
 -- two lists whose names are apart
@@ -55,7 +55,7 @@ own_names_joined (file ∷ files) others own own_others apart =
     let here : has_name file.name (files ++ others) ≡ false = list_any-append (is_named file.name) files others ∙ or_from (has_name file.name files) (has_name file.name others) own.0 (apart file.name itself) in
     (here, own_names_joined files others own.1 own_others (λ name t. apart name (or_right (is_named name file) (has_name name files) t)))
 
-pub own_names_appended : (files others : List File) → HaveOwnNames files → HaveOwnNames others → AreApart others files → HaveOwnNames (files ++ others)
+pub own_names_appended : (files others : List File) → HaveOwnNames files → HaveOwnNames others → ShareNoName others files → HaveOwnNames (files ++ others)
 own_names_appended files others own own_others apart =
     own_names_joined files others own own_others (λ name t. false_from_ne_true (has_name name others) (λ u. apart name (named name others u) (named name files t)))
 
@@ -112,7 +112,7 @@ own_names_with_file file (first ∷ files) own =
     (λ e. (with_file_none file first.name files own.0 (turned first.name file.name e), own_names_with_file file files own.1))
 
 -- of two lists, where the names of the second don't stand in the first
-pub has_named : (name : List ℕ) (files : List File) → Contains (names files) name → has_name name files ≡ true
+pub has_named : (name : List ℕ) (files : List File) → Contains (file_names files) name → has_name name files ≡ true
 has_named name files at =
     let unnamed : File = record { name = name; bytes = [] } in
     let long = length-map files (λ (file : File). file.name) in
@@ -120,7 +120,7 @@ has_named name files at =
     let is : (get_or files at.0 unnamed).name ≡ name = sym (get_or-map (λ (file : File). file.name) files at.0 unnamed name (omega arith)) ∙ at.2 in
     list_any_at (is_named name) files at.0 unnamed (omega arith) ((same (get_or files at.0 unnamed).name name).1 is)
 
-pub none_apart : (made files : List File) → list_any (λ file. has_name file.name made) files ≡ false → AreApart made files
+pub none_apart : (made files : List File) → list_any (λ file. has_name file.name made) files ≡ false → ShareNoName made files
 none_apart made files none name of_made of_files =
     let unnamed : File = record { name = name; bytes = [] } in
     let long = length-map files (λ (file : File). file.name) in
@@ -135,7 +135,7 @@ own_names_put (Ok value) f old new file own put kept = subst HaveOwnNames (sym p
 own_names_put (Err fault) f old new file own put kept = subst HaveOwnNames (sym (ap (flat_map f) kept)) own
 
 -- one part more
-pub own_names_part : {X : Type 0} (f : X → List File) (parts new : List X) (last : X) → new ≡ parts ++ last ∷ [] → HaveOwnNames (flat_map f parts) → HaveOwnNames (f last) → AreApart (f last) (flat_map f parts) → HaveOwnNames (flat_map f new)
+pub own_names_part : {X : Type 0} (f : X → List File) (parts new : List X) (last : X) → new ≡ parts ++ last ∷ [] → HaveOwnNames (flat_map f parts) → HaveOwnNames (f last) → ShareNoName (f last) (flat_map f parts) → HaveOwnNames (flat_map f new)
 own_names_part f parts new last more own own_last apart =
     let whole : flat_map f new ≡ flat_map f parts ++ f last = ap (flat_map f) more ∙ (flat_map-append f parts (last ∷ []) ∙ ap (λ (l : List File). flat_map f parts ++ l) (append-nil (f last))) in
     subst HaveOwnNames (sym whole) (own_names_appended (flat_map f parts) (f last) own own_last apart)

@@ -2,7 +2,7 @@
 use Rattle.std.proofs.Common.{◌≡◌, ℕ, ◌+◌, ◌≤◌, length, List, ◌++◌, take, min, ap, ◌∙◌, arith}
 use Rattle.std.proofs.lemmas.List.{length-append, length-take-le}
 use Rattle.link_traits.specs.Contents.{OpenFile}
-use Rattle.link_traits.specs.Link.{Told, TakesOff, IsWithin}
+use Rattle.link_traits.specs.Link.{Told, TakesOffAsTold, IsWithin}
 use Rattle.memory_outside.specs.Memory.{TakesFront}
 
 -- so many bytes of a list stand in front of the others
@@ -17,6 +17,6 @@ read_goes_on old buffer count new takes =
     front_length old.left buffer new.left count (omega arith) takes.next
 
 -- after bytes were received as many fewer wait, and at least one fewer
-pub recv_goes_on : (old : Told) (buffer : List ℕ) (count : ℕ) (new : Told) → IsWithin buffer count → TakesOff old buffer count new → length old.waiting ≡ count + length new.waiting
+pub recv_goes_on : (old : Told) (buffer : List ℕ) (count : ℕ) (new : Told) → IsWithin buffer count → TakesOffAsTold old buffer count new → length old.waiting ≡ count + length new.waiting
 recv_goes_on old buffer count new within takes =
     front_length old.waiting buffer new.waiting count within.fits takes.bytes

@@ -8,7 +8,7 @@ use Rattle.std.proofs.lemmas.Grind.{common_steps}
 use Rattle.std.proofs.lemmas.List.{map-append, take_more, at_drop_more}
 use Rattle.std.proofs.lemmas.List.Concat.{flat_map-append}
 use Rattle.std.proofs.lemmas.List.Folds.{list_any-append}
-use Rattle.link_traits.specs.Contents.{File, names, is_named, has_name, bytes_of}
+use Rattle.link_traits.specs.Contents.{File, file_names, is_named, has_name, contents_of}
 use Rattle.link_traits.specs.Folder.{without, with_name}
 use Rattle.memory_outside.specs.Memory.{with_file}
 
@@ -77,19 +77,19 @@ with_file-new f (part ∷ parts) file h =
     ] refl h
 
 -- the bytes of a name that stands in the front
-pub bytes_of-front : (xs ys : List File) (name bytes : List ℕ) → bytes_of xs name ≡ Some bytes → bytes_of (xs ++ ys) name ≡ Some bytes
+pub bytes_of-front : (xs ys : List File) (name bytes : List ℕ) → contents_of xs name ≡ Some bytes → contents_of (xs ++ ys) name ≡ Some bytes
 bytes_of-front [] ys name bytes h = cc
 bytes_of-front (x ∷ xs) ys name bytes h =
-    elim (is_named name x) as (λ b. cond b (Some x.bytes) (bytes_of xs name) ≡ Some bytes → cond b (Some x.bytes) (bytes_of (xs ++ ys) name) ≡ Some bytes) [
+    elim (is_named name x) as (λ b. cond b (Some x.bytes) (contents_of xs name) ≡ Some bytes → cond b (Some x.bytes) (contents_of (xs ++ ys) name) ≡ Some bytes) [
       | true ↦ λ e. e
       | false ↦ λ e. bytes_of-front xs ys name bytes e
     ] h
 
 -- the bytes of a name that doesn't stand in the front
-pub bytes_of-back : (xs ys : List File) (name : List ℕ) → bytes_of xs name ≡ None → bytes_of (xs ++ ys) name ≡ bytes_of ys name
+pub bytes_of-back : (xs ys : List File) (name : List ℕ) → contents_of xs name ≡ None → contents_of (xs ++ ys) name ≡ contents_of ys name
 bytes_of-back [] ys name h = refl
 bytes_of-back (x ∷ xs) ys name h =
-    elim (is_named name x) as (λ b. cond b (Some x.bytes) (bytes_of xs name) ≡ None → cond b (Some x.bytes) (bytes_of (xs ++ ys) name) ≡ bytes_of ys name) [
+    elim (is_named name x) as (λ b. cond b (Some x.bytes) (contents_of xs name) ≡ None → cond b (Some x.bytes) (contents_of (xs ++ ys) name) ≡ contents_of ys name) [
       | true ↦ λ e. (cc)
       | false ↦ λ e. bytes_of-back xs ys name e
     ] h
@@ -113,23 +113,23 @@ position-with_file-new f parts file last h one =
     flat_map-append f parts (last ∷ []) ∙ (ap (λ (l : List File). flat_map f parts ++ (l ++ [])) one ∙ sym (with_file-new f parts file none))
 
 -- the bytes of a name that stands in the next part
-pub bytes_of-found : {X : Type 0} (f : X → List File) (parts : List X) (i : ℕ) (part : X) (name bytes : List ℕ) → i < length parts → part ≡ get_or parts i part → bytes_of (f part) name ≡ Some bytes → bytes_of (flat_map f (drop i parts)) name ≡ Some bytes
+pub bytes_of-found : {X : Type 0} (f : X → List File) (parts : List X) (i : ℕ) (part : X) (name bytes : List ℕ) → i < length parts → part ≡ get_or parts i part → contents_of (f part) name ≡ Some bytes → contents_of (flat_map f (drop i parts)) name ≡ Some bytes
 bytes_of-found {X} f parts i part name bytes h here found =
-    let Found : X → Type 0 = λ p. bytes_of (f p ++ flat_map f (drop (i + 1) parts)) name ≡ Some bytes in
-    at_drop_more (λ (ps : List X). bytes_of (flat_map f ps) name) parts i part h ∙ subst Found here (bytes_of-front (f part) (flat_map f (drop (i + 1) parts)) name bytes found)
+    let Found : X → Type 0 = λ p. contents_of (f p ++ flat_map f (drop (i + 1) parts)) name ≡ Some bytes in
+    at_drop_more (λ (ps : List X). contents_of (flat_map f ps) name) parts i part h ∙ subst Found here (bytes_of-front (f part) (flat_map f (drop (i + 1) parts)) name bytes found)
 
 -- the bytes of a name that doesn't stand in the next part
-pub bytes_of-passed : {X : Type 0} (f : X → List File) (parts : List X) (i : ℕ) (part : X) (name : List ℕ) → i < length parts → part ≡ get_or parts i part → bytes_of (f part) name ≡ None → bytes_of (flat_map f (drop i parts)) name ≡ bytes_of (flat_map f (drop (i + 1) parts)) name
+pub bytes_of-passed : {X : Type 0} (f : X → List File) (parts : List X) (i : ℕ) (part : X) (name : List ℕ) → i < length parts → part ≡ get_or parts i part → contents_of (f part) name ≡ None → contents_of (flat_map f (drop i parts)) name ≡ contents_of (flat_map f (drop (i + 1) parts)) name
 bytes_of-passed {X} f parts i part name h here none =
-    let Passed : X → Type 0 = λ p. bytes_of (f p ++ flat_map f (drop (i + 1) parts)) name ≡ bytes_of (flat_map f (drop (i + 1) parts)) name in
-    at_drop_more (λ (ps : List X). bytes_of (flat_map f ps) name) parts i part h ∙ subst Passed here (bytes_of-back (f part) (flat_map f (drop (i + 1) parts)) name none)
+    let Passed : X → Type 0 = λ p. contents_of (f p ++ flat_map f (drop (i + 1) parts)) name ≡ contents_of (flat_map f (drop (i + 1) parts)) name in
+    at_drop_more (λ (ps : List X). contents_of (flat_map f ps) name) parts i part h ∙ subst Passed here (bytes_of-back (f part) (flat_map f (drop (i + 1) parts)) name none)
 
 -- the names of the next part, after those of the parts before it
-pub names-more : {X : Type 0} (f : X → List File) (parts : List X) (i : ℕ) (part : X) → i < length parts → part ≡ get_or parts i part → names (flat_map f (take i parts)) ++ names (f part) ≡ names (flat_map f (take (i + 1) parts))
+pub names-more : {X : Type 0} (f : X → List File) (parts : List X) (i : ℕ) (part : X) → i < length parts → part ≡ get_or parts i part → file_names (flat_map f (take i parts)) ++ file_names (f part) ≡ file_names (flat_map f (take (i + 1) parts))
 names-more {X} f parts i part h here =
-    let More : X → Type 0 = λ p. names (flat_map f (take i parts)) ++ names (f p) ≡ names (flat_map f (take (i + 1) parts)) in
+    let More : X → Type 0 = λ p. file_names (flat_map f (take i parts)) ++ file_names (f p) ≡ file_names (flat_map f (take (i + 1) parts)) in
     let name : File → List ℕ = λ file. file.name in
-    subst More (sym here) (sym (ap (λ (l : List X). names (flat_map f l)) (take_more parts i part h) ∙ (ap names (flat_map-append f (take i parts) (get_or parts i part ∷ [])) ∙ (map-append name (flat_map f (take i parts)) (f (get_or parts i part) ++ []) ∙ ap (λ (l : List File). names (flat_map f (take i parts)) ++ names l) (append-nil (f (get_or parts i part)))))))
+    subst More (sym here) (sym (ap (λ (l : List X). file_names (flat_map f l)) (take_more parts i part h) ∙ (ap file_names (flat_map-append f (take i parts) (get_or parts i part ∷ [])) ∙ (map-append name (flat_map f (take i parts)) (f (get_or parts i part) ++ []) ∙ ap (λ (l : List File). file_names (flat_map f (take i parts)) ++ file_names l) (append-nil (f (get_or parts i part)))))))
 
 -- a test passes in the parts put together where it does in one of them
 pub list_any-parts : {X Y : Type 0} (p : X → Bool) (f : Y → List X) (parts : List Y) → list_any p (flat_map f parts) ≡ list_any (λ y. list_any p (f y)) parts

@@ -1,13 +1,14 @@
 -- What a folder and a shelf in memory hold.
 use Rattle.std.specs.Prelude.{◌≡◌, ◌+◌, ◌-◌, ◌^◌, ℕ, nat_le, Bool, false, List, [], ◌∷◌, ◌++◌, Option, Some, None, take, length, min, option_map, IfSome, if◌then◌else◌}
-use Rattle.link_traits.specs.Contents.{File, OpenFile, ShelfTold, HaveOwnNames, is_named, has_name, bytes_of}
+use Rattle.link_traits.specs.Contents.{File, OpenFile, ShelfTold, HaveOwnNames, is_named, has_name, contents_of}
 use Rattle.link_traits.specs.Folder.{files_after_rename}
 use Rattle.memory_outside.specs.Script.{Counts, at_most_count, number_of, script_of, sum_of_counts}
 
 -- the files with this one put: in the place of the first of its name, or at the end
 abbrev pub with_file : List File → File → List File
 with_file [] file = file ∷ []
-with_file (first ∷ others) file = if is_named file.name first then file ∷ others else first ∷ with_file others file
+with_file (first ∷ others) file =
+    if is_named file.name first then file ∷ others else first ∷ with_file others file
 
 -- the file with these bytes more
 abbrev pub with_bytes : File → List ℕ → File
@@ -24,7 +25,7 @@ unread bytes = record { read = []; left = bytes }
 
 -- the file of this name, of which nothing was read yet, if there is one
 abbrev pub opened_in : List File → List ℕ → Option OpenFile
-opened_in files name = option_map unread (bytes_of files name)
+opened_in files name = option_map unread (contents_of files name)
 
 -- the open file, or one without bytes
 abbrev pub opened_of : Option OpenFile → OpenFile
@@ -58,15 +59,22 @@ pub record HoldsOwnNames (shelf : ShelfState) : Type 0 where
 
 -- what the shelf tells
 abbrev pub shelf_told : ShelfState → ShelfTold
-shelf_told shelf = record { seen = shelf.seen; opened = opened_of shelf.opened; made = shelf.made; begun = begun_of shelf.begun }
+shelf_told shelf =
+    record {
+      seen = shelf.seen;
+      opened = opened_of shelf.opened;
+      made = shelf.made;
+      begun = begun_of shelf.begun;
+    }
 
 -- how many bytes were read of the open file, if one is open
-abbrev pub reading_of : ShelfState → Option ℕ
-reading_of shelf = option_map (λ file. length file.read) shelf.opened
+abbrev pub bytes_read : ShelfState → Option ℕ
+bytes_read shelf = option_map (λ file. length file.read) shelf.opened
 
 -- a shelf that sees these files, and has made none
 abbrev pub new_shelf : List File → Counts → ShelfState
-new_shelf seen script = record { seen = seen; opened = None; made = []; begun = None; script = script }
+new_shelf seen script =
+    record { seen = seen; opened = None; made = []; begun = None; script = script }
 
 -- whether the begun file has no room for these bytes: it would have 2^62 or more
 abbrev pub has_no_room_for : ShelfState → List ℕ → Bool
@@ -123,11 +131,13 @@ pub record FolderState : Type 0 where
 
 -- an empty folder, of whose calls these are to fail
 abbrev pub new_folder : List ℕ → FolderState
-new_folder faults = record { contents = []; path = None; out = 0; shelves = 0; script = script_of faults 0 }
+new_folder faults =
+    record { contents = []; path = None; out = 0; shelves = 0; script = script_of faults 0 }
 
 -- the shelf of this number, which sees the folder's files
 abbrev pub next_shelf : FolderState → ℕ → ShelfState
-next_shelf folder number = new_shelf folder.contents (script_of folder.script.failing (number_of number 0))
+next_shelf folder number =
+    new_shelf folder.contents (script_of folder.script.failing (number_of number 0))
 
 -- a file of this name and these bytes was put
 abbrev pub folder_after_put : FolderState → List ℕ → List ℕ → FolderState

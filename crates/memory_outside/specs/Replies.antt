@@ -38,12 +38,14 @@ pub record SiteState : Type 0 where
 
 -- what the site tells
 abbrev pub site_told : SiteState → SiteTold
-site_told site = record { conversations = site.conversations; sent = map (λ link. link.sent) site.returned }
+site_told site =
+    record { conversations = site.conversations; sent = map (λ link. link.sent) site.returned }
 
 -- the messages of the first link of this number that came back
 abbrev pub messages_of : List Returned → ℕ → Option (List (List ℕ))
 messages_of [] number = None
-messages_of (link ∷ others) number = if link.number == number then Some link.sent else messages_of others number
+messages_of (link ∷ others) number =
+    if link.number == number then Some link.sent else messages_of others number
 
 -- whether the link of this number came back
 abbrev pub has_returned : SiteState → ℕ → Bool
@@ -51,7 +53,8 @@ has_returned site number = is_some (messages_of site.returned number)
 
 -- a message was sent, or the link has failed
 abbrev pub told_after_answer : Bool → Told → List ℕ → Told
-told_after_answer ok told message = if ok then told_after_send told message else told_after_failure told
+told_after_answer ok told message =
+    if ok then told_after_send told message else told_after_failure told
 
 -- a message was sent, or the link has failed; and these calls are counted
 abbrev pub link_after_send : LinkState → Bool → List ℕ → Counts → LinkState
@@ -91,7 +94,8 @@ with_one_more links = record links { out = links.out + 1 }
 
 -- which links are out after a connection was asked for, which may be alone
 abbrev pub links_after : Bool → Bool → Links → Links
-links_after ok sole old = record { out = if ok then old.out + 1 else old.out; sole = if ok then sole else false }
+links_after ok sole old =
+    record { out = if ok then old.out + 1 else old.out; sole = if ok then sole else false }
 
 -- a connection was asked for: its conversation and its number are used up
 abbrev pub site_after_connect : SiteState → Links → Counts → SiteState
@@ -107,8 +111,8 @@ abbrev pub counts_at_connect : SiteState → Counts
 counts_at_connect site = record site.script { call = number_of site.next 0 }
 
 -- a link came back
-abbrev pub site_after_return : SiteState → LinkState → SiteState
-site_after_return old link = record old {
+abbrev pub site_state_after_return : SiteState → LinkState → SiteState
+site_state_after_return old link = record old {
   returned = old.returned ++ record { number = link.number; sent = link.told.sent } ∷ [];
   links = record { out = old.links.out - 1; sole = false };
   script = sum_of_counts old.script link.script;

@@ -54,10 +54,13 @@ sum_of_counts counts others = record counts {
 
 -- what a failed call is counted as: it was listed, it could not be helped, or memory was wanting
 abbrev pub after_failure : Counts → Bool → Counts
-after_failure counts unavoidable = if is_listed counts then after_call counts else (if unavoidable then after_fault (after_call counts) else after_want (after_call counts))
+after_failure counts unavoidable =
+    if is_listed counts then after_call counts
+    else (if unavoidable then after_fault (after_call counts) else after_want (after_call counts))
 
 -- a call is counted; it fails where it is listed or can't be helped, and else only for want of memory
-pub record Counted {T E : Type 0} (old : Counts) (unavoidable : Bool) (result : Result T E) (new : Counts) : Type 0 where
+pub record Counted {T E : Type 0} (old : Counts) (unavoidable : Bool) (result : Result T E)
+    (new : Counts) : Type 0 where
   pub ok : OnOk result (new ≡ after_call old)
   pub unlisted : OnOk result (is_listed old ≡ false)
   pub avoidable : OnOk result (unavoidable ≡ false)

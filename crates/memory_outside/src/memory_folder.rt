@@ -3,7 +3,7 @@ ghost use Rattle.std.specs.Prelude.{◌≡◌, ◌≤◌, ◌<◌, ◌+◌, ◌-
 ghost use Rattle.std.specs.Cmp.Lexicographic.{slice_cmp};
 ghost use Rattle.std.specs.Ordering.{nat_cmp};
 ghost use Rattle.std.specs.List.{list_any, flat_map};
-ghost use Rattle.link_traits.specs.Contents.{names, IsListing, AreApart, HaveOwnNames, is_named, bytes_of, has_name};
+ghost use Rattle.link_traits.specs.Contents.{file_names, IsListing, ShareNoName, HaveOwnNames, is_named, contents_of, has_name};
 ghost use Rattle.link_traits.specs.Folder.{without, with_name, files_after_rename};
 ghost use Rattle.memory_outside.specs.Memory.{FolderState, with_file, new_folder, next_shelf, folder_after_put, folder_after_rename, folder_after_shelf, folder_after_return};
 ghost use Rattle.memory_outside.specs.Script.{faults_of, is_listed, after_call, Counted};
@@ -84,8 +84,8 @@ impl MemoryFolder {
 
     /// The bytes of the file of this name, if there is one. Takes no memory.
     pub fn file(&self, name: &str) -> Option<&[u8]>
-        ensures { MatchOption result (bytes_of self.now.contents name.now ≡ None)
-            (λ bytes. bytes_of self.now.contents name.now ≡ Some bytes.now) }
+        ensures { MatchOption result (contents_of self.now.contents name.now ≡ None)
+            (λ bytes. contents_of self.now.contents name.now ≡ Some bytes.now) }
     {
         'parts: for part in self.parts.as_slice() {
             if let Some(bytes) = file_in(part.as_slice(), name) {
@@ -106,7 +106,7 @@ impl MemoryFolder {
 
     // The names of all files, in the order of the files.
     fn copied_names(&self) -> Result<NameList, OutOfMemory>
-        ensures { IfOk result (λ found. found ≡ names self.now.contents) }
+        ensures { IfOk result (λ found. found ≡ file_names self.now.contents) }
     {
         let mut found = NameList::new(self.alloc);
         'parts: for part in self.parts.as_slice() {
@@ -118,7 +118,7 @@ impl MemoryFolder {
     /// Whether one of the files that the shelf has made has the name of a file that is here. Takes no
     /// memory.
     pub fn has_any_of(&self, shelf: &MemoryShelf) -> bool
-        ensures { result ≡ false → AreApart shelf.now.made self.now.contents }
+        ensures { result ≡ false → ShareNoName shelf.now.made self.now.contents }
     {
         has_any(self.parts.as_slice(), shelf)
     }
@@ -298,7 +298,7 @@ fn sort(names: &mut NameList)
 
 // Copies each name.
 fn names_into(alloc: Global, files: &[MemoryFile], found: &mut NameList) -> Result<(), OutOfMemory>
-    ensures { OnOk result (found.new ≡ found.old ++ names files.now) }
+    ensures { OnOk result (found.new ≡ found.old ++ file_names files.now) }
 {
     'files: for file in files {
         found.push(Name::of(alloc, file.name())?)?;
@@ -382,7 +382,7 @@ impl Folder for MemoryFolder {
     fn take_back(&mut self, shelf: MemoryShelf)
         requires out { 0 < self.old.out }
         requires new_names { HaveOwnNames self.old.contents →
-            AreApart shelf.made self.old.contents }
+            ShareNoName shelf.made self.old.contents }
 
         ensures tells { HaveOwnNames self.old.contents ↔ HaveOwnNames self.new.contents }
         ensures folder { self.new ≡ folder_after_return self.old shelf }

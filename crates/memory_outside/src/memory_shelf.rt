@@ -1,8 +1,8 @@
 //! A shelf of a folder in memory.
 ghost use Rattle.std.specs.Prelude.{◌≡◌, ◌<◌, ◌↔◌, [], Some, None, true, false, length, is_some, is_ok, MatchOption, OnOk, OnErr, IfOk};
 ghost use Rattle.std.specs.List.{list_any};
-ghost use Rattle.link_traits.specs.Contents.{HaveOwnNames, has_name, bytes_of};
-ghost use Rattle.memory_outside.specs.Memory.{ShelfState, HoldsOwnNames, TakesFront, begun_of, with_bytes, opened_in, opened_of, place_after, shelf_told, reading_of, new_shelf, has_no_room_for, reads_to_limit, shelf_after_create, shelf_after_append, shelf_after_finish, shelf_after_open, shelf_after_read};
+ghost use Rattle.link_traits.specs.Contents.{HaveOwnNames, has_name, contents_of};
+ghost use Rattle.memory_outside.specs.Memory.{ShelfState, HoldsOwnNames, TakesFront, begun_of, with_bytes, opened_in, opened_of, place_after, shelf_told, bytes_read, new_shelf, has_no_room_for, reads_to_limit, shelf_after_create, shelf_after_append, shelf_after_finish, shelf_after_open, shelf_after_read};
 ghost use Rattle.memory_outside.specs.Script.{faults_of, Counted};
 
 use crate::memory_file::{FileReader, MemoryFile};
@@ -14,8 +14,8 @@ use std::marker::Model;
 
 // The bytes of the first file of this name.
 pub(crate) fn file_in<'a>(files: &'a [MemoryFile], name: &str) -> Option<&'a [u8]>
-    ensures { MatchOption result (bytes_of files.now name.now ≡ None)
-        (λ bytes. bytes_of files.now name.now ≡ Some bytes.now) }
+    ensures { MatchOption result (contents_of files.now name.now ≡ None)
+        (λ bytes. contents_of files.now name.now ≡ Some bytes.now) }
 {
     'files: for file in files {
         if file.name() == name {
@@ -163,7 +163,8 @@ impl MemoryShelf {
 
     // Opens the file of this name, if there is one.
     fn find(&mut self, name: &str) -> Result<bool, OutOfMemory>
-        ensures found { IfOk result (λ found. found ≡ is_some (bytes_of self.old.seen name.now)) }
+        ensures found { IfOk result
+            (λ found. found ≡ is_some (contents_of self.old.seen name.now)) }
         ensures ok { OnOk result (self.new
             ≡ record self.old { opened = opened_in self.old.seen name.now }) }
         ensures err { OnErr result (self.new ≡ self.old) }
@@ -228,7 +229,7 @@ impl Shelf for MemoryShelf {
 
     ghost size = { λ shelf. length (begun_of shelf.begun).bytes };
 
-    ghost reading = { reading_of };
+    ghost reading = { bytes_read };
 
     ghost faults = { λ shelf. faults_of shelf.script };
 
@@ -299,7 +300,8 @@ impl Shelf for MemoryShelf {
 
     fn open(&mut self, name: &str) -> Result<bool, FolderFailed>
         ensures tells { HoldsOwnNames self.old ↔ HoldsOwnNames self.new }
-        ensures found { IfOk result (λ found. found ≡ is_some (bytes_of self.old.seen name.now)) }
+        ensures found { IfOk result
+            (λ found. found ≡ is_some (contents_of self.old.seen name.now)) }
         ensures shelf { self.new
             ≡ shelf_after_open self.old (is_ok result) name.now self.new.script }
         ensures counts { Counted self.old.script false result self.new.script }
@@ -317,7 +319,7 @@ impl Shelf for MemoryShelf {
     }
 
     fn read(&mut self, buffer: &mut [u8]) -> Result<usize, FolderFailed>
-        requires opened { is_some (reading_of self.old) ≡ true }
+        requires opened { is_some (bytes_read self.old) ≡ true }
         requires room { 0 < length buffer.old }
 
         ensures tells { HoldsOwnNames self.old ↔ HoldsOwnNames self.new }

@@ -1,6 +1,6 @@
 //! A link with a list of replies.
 ghost use Rattle.std.specs.Prelude.{◌≡◌, ◌≤◌, ◌<◌, ◌+◌, ◌++◌, take, drop, length, OnOk, OnErr, IfOk, false, min, ◌||◌, is_ok, is_err, if◌then◌else◌};
-ghost use Rattle.link_traits.specs.Link.{Receives, IsWithin, told_at_start, told_after_send, first, others};
+ghost use Rattle.link_traits.specs.Link.{ReceivesAsTold, IsWithin, told_at_start, told_after_send, first, others};
 ghost use Rattle.memory_outside.specs.Replies.{LinkState, Returned, at_most, has_nothing, link_after_send};
 ghost use Rattle.memory_outside.specs.Script.{faults_of, is_listed, Counted};
 
@@ -195,7 +195,7 @@ impl Link for ReplyLink {
         requires room { 0 < length buffer.old }
 
         ensures within { IfOk result (λ count. IsWithin buffer.old count) }
-        ensures received { Receives self.old.told buffer.new result self.new.told }
+        ensures received { ReceivesAsTold self.old.told buffer.new result self.new.told }
         ensures count { IfOk result (λ count. count ≡
             at_most self.old.cut (min (length self.old.told.waiting) (length buffer.old))) }
         ensures link { self.new

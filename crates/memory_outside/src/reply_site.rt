@@ -1,7 +1,7 @@
 //! A site with a list of conversations.
 ghost use Rattle.std.specs.Prelude.{◌≡◌, ◌+◌, ◌-◌, ◌^◌, ◌≤◌, ◌<◌, true, false, Some, None, drop, is_ok, if◌then◌else◌, OnOk, OnErr, IfOk, IfSome};
 ghost use Rattle.link_traits.specs.Site.{Aim, next_of};
-ghost use Rattle.memory_outside.specs.Replies.{SiteState, counts_at_connect, has_returned, link_begun, links_after, messages_of, new_site, next_link, site_after_connect, site_after_return, site_told, with_one_more};
+ghost use Rattle.memory_outside.specs.Replies.{SiteState, counts_at_connect, has_returned, link_begun, links_after, messages_of, new_site, next_link, site_after_connect, site_state_after_return, site_told, with_one_more};
 ghost use Rattle.memory_outside.specs.Script.{Counted, faults_of};
 
 use crate::reply_link::{Conversation, MessageList, ReplyLink, ReturnedLink};
@@ -245,7 +245,7 @@ impl Site for ReplySite {
     fn give_back(&mut self, link: ReplyLink)
         requires out { 0 < self.old.links.out }
 
-        ensures site { self.new ≡ site_after_return self.old link }
+        ensures site { self.new ≡ site_state_after_return self.old link }
     {
         let (returned, script) = link.close();
         self.out -= 1;

@@ -4,7 +4,8 @@ use Rattle.std.proofs.Math.Nat.{pow-le-pow_right, pow-succ'}
 use Rattle.std.proofs.lemmas.Bool.Decides.{nat_tests}
 use Rattle.std.proofs.lemmas.List.Sums.{prefix_len-le-length, prefix_len_passes, fold_more}
 use Rattle.std.proofs.lemmas.List.Folds.{length-prefix_len}
-use Rattle.wire_forms.specs.Version.{is_digit, digit_count, digits_value}
+use Rattle.plain_data.specs.Byte.{is_digit, digits_value}
+use Rattle.wire_forms.specs.Version.{digit_count}
 
 pub count_within : (bytes : List ℕ) → digit_count bytes ≤ length bytes
 count_within bytes = prefix_len-le-length is_digit bytes

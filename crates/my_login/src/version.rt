@@ -1,6 +1,7 @@
 //! The versions of servers.
 ghost use Rattle.std.specs.Prelude.{◌≡◌, ◌≤◌, length};
-ghost use Rattle.wire_forms.specs.Version.{is_digit, digit_count, front_number, is_from_8_2, is_newer_after, is_newer};
+ghost use Rattle.plain_data.specs.Byte.{is_digit};
+ghost use Rattle.wire_forms.specs.Version.{digit_count, front_number, is_from_8_2, is_newer_after, is_newer};
 
 // Whether a version has SHOW BINARY LOG STATUS.
 pub(crate) fn is_newer(version: &[u8]) -> bool

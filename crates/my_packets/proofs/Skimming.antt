@@ -10,7 +10,7 @@ use Rattle.my_packets.specs.Begins.{IsWrong}
 use Rattle.my_packets.specs.Front.{HasMessage, HasFull, HasWrongId, IsTooLong, IsPart, Wants}
 use Rattle.wire_forms.specs.Packet.{packet, packet_header, next_id, id_after, packets, full_packets, missing, HasHeader}
 use Rattle.my_packets.specs.Skimmed.{Skimmed}
-use Rattle.my_packets.specs.Skims.{Skims, IsAt, IsInHeader, IsInPacket, IsRead, IsBroken, Feeds, wanted, wanted_at, fault_at, fault_of}
+use Rattle.my_packets.specs.Skims.{Skims, IsAt, IsInHeader, IsInPacket, IsReadWhole, IsBroken, Feeds, wanted, wanted_at, skim_fault, fault_of}
 use Rattle.my_packets.specs.declared.frames.FrameFault.{FrameFault}
 use Rattle.my_packets.specs.declared.frames.FrameFault.TheVariants.{BadSequence, TooLong}
 use Rattle.my_packets.specs.declared.skim.Stage.{Stage}
@@ -107,20 +107,20 @@ whole_is_right : (limit seq : ℕ) (message fed after : List ℕ) (fault : Frame
 whole_is_right limit seq message fed after (BadSequence found wanted) whole wrong = (one_front limit seq fed).message_is_right found wanted message after whole wrong
 whole_is_right limit seq message fed after (TooLong size) whole wrong = (one_front limit seq fed).message_is_short size message after whole wrong
 
-at_is_right : (seq limit : ℕ) (fed : List ℕ) (skim : Skimmed) (stage : Stage) → IsAt seq limit fed skim stage → fault_at stage ≡ None → (fault : FrameFault) → ¬ IsWrong limit seq fed fault
+at_is_right : (seq limit : ℕ) (fed : List ℕ) (skim : Skimmed) (stage : Stage) → IsAt seq limit fed skim stage → skim_fault stage ≡ None → (fault : FrameFault) → ¬ IsWrong limit seq fed fault
 at_is_right seq limit fed skim Header at none fault wrong = part_is_right limit seq (4 - length skim.header) fed fault (header_is_part seq limit fed skim at) wrong
 at_is_right seq limit fed skim (Packet size left) at none fault wrong = part_is_right limit seq left fed fault (packet_is_part seq limit size left fed skim at) wrong
 at_is_right seq limit fed skim Whole at none fault wrong = whole_is_right limit seq at.message fed [] fault at.whole wrong
 at_is_right seq limit fed skim (Wrong other) at none fault wrong = absurd (cc)
 
-at_is_wrong : (seq limit : ℕ) (fed : List ℕ) (skim : Skimmed) (stage : Stage) (fault : FrameFault) → IsAt seq limit fed skim stage → fault_at stage ≡ Some fault → IsWrong limit seq fed fault
+at_is_wrong : (seq limit : ℕ) (fed : List ℕ) (skim : Skimmed) (stage : Stage) (fault : FrameFault) → IsAt seq limit fed skim stage → skim_fault stage ≡ Some fault → IsWrong limit seq fed fault
 at_is_wrong seq limit fed skim Header fault at is = absurd (cc)
 at_is_wrong seq limit fed skim (Packet size left) fault at is = absurd (cc)
 at_is_wrong seq limit fed skim Whole fault at is = absurd (cc)
 at_is_wrong seq limit fed skim (Wrong other) fault at is = let same : other ≡ fault = cc in subst (λ (f : FrameFault). IsWrong limit seq fed f) same at.why
 
 -- nothing is wanted where a skim stands at a fault
-spent_at : (stage : Stage) (header : List ℕ) (fault : FrameFault) → fault_at stage ≡ Some fault → wanted_at stage header ≡ 0
+spent_at : (stage : Stage) (header : List ℕ) (fault : FrameFault) → skim_fault stage ≡ Some fault → wanted_at stage header ≡ 0
 spent_at Header header fault is = absurd (cc)
 spent_at (Packet size left) header fault is = absurd (cc)
 spent_at Whole header fault is = refl
@@ -159,12 +159,12 @@ nothing_follows skim piece none seq limit fed skims =
 
 pub feeds_whole : (skim : Skimmed) (piece : List ℕ) → skim.stage ≡ Whole → length piece ≤ 0 → Feeds skim piece (Ok tt) skim
 feeds_whole skim piece stage none =
-    let right : fault_of skim ≡ None = ap fault_at stage in
+    let right : fault_of skim ≡ None = ap skim_fault stage in
     feeds_right skim skim piece right right (nothing_follows skim piece none)
 
 pub feeds_broken : (skim : Skimmed) (piece : List ℕ) (fault : FrameFault) → skim.stage ≡ Wrong fault → length piece ≤ 0 → Feeds skim piece (Err fault) skim
 feeds_broken skim piece fault stage none =
-    let is : fault_of skim ≡ Some fault = ap fault_at stage in
+    let is : fault_of skim ≡ Some fault = ap skim_fault stage in
     let follows = nothing_follows skim piece none in
     record {
       follows = follows;
@@ -178,7 +178,7 @@ feeds_broken skim piece fault stage none =
 -- bytes of a header
 module _ (old : Skimmed) (piece header : List ℕ) (stage : old.stage ≡ Header) (header_is : header ≡ old.header ++ piece) where
   before : fault_of old ≡ None
-  before = ap fault_at stage
+  before = ap skim_fault stage
 
   in_header : (seq limit : ℕ) (fed : List ℕ) → Skims seq limit fed old → IsInHeader seq limit fed old
   in_header seq limit fed skims = subst (λ (s : Stage). IsAt seq limit fed old s) stage skims.at
@@ -305,7 +305,7 @@ module _ (old : Skimmed) (piece header : List ℕ) (stage : old.stage ≡ Header
 -- bytes of a packet
 module _ (old : Skimmed) (piece kept : List ℕ) (size left : ℕ) (stage : old.stage ≡ Packet size left) (kept_is : kept ≡ take 1024 (old.kept ++ piece)) where
   none_before : fault_of old ≡ None
-  none_before = ap fault_at stage
+  none_before = ap skim_fault stage
 
   in_packet : (seq limit : ℕ) (fed : List ℕ) → Skims seq limit fed old → IsInPacket seq limit size left fed old
   in_packet seq limit fed skims = subst (λ (s : Stage). IsAt seq limit fed old s) stage skims.at
@@ -509,11 +509,11 @@ pub kept_of : (seq limit : ℕ) (fed message : List ℕ) (skim : Skimmed) → Sk
 kept_of seq limit fed message skim skims fed_is = kept_at seq limit fed message skim skim.stage skims.at fed_is
 
 -- what a skim has read, where it wants nothing and stands at no fault
-read_at : (seq limit : ℕ) (fed : List ℕ) (skim : Skimmed) (stage : Stage) → IsAt seq limit fed skim stage → wanted_at stage skim.header ≡ 0 → fault_at stage ≡ None → IsRead seq limit fed skim
+read_at : (seq limit : ℕ) (fed : List ℕ) (skim : Skimmed) (stage : Stage) → IsAt seq limit fed skim stage → wanted_at stage skim.header ≡ 0 → skim_fault stage ≡ None → IsReadWhole seq limit fed skim
 read_at seq limit fed skim Header at none right = let less = at.less in absurd (omega arith)
 read_at seq limit fed skim (Packet size left) at none right = let some = at.some in absurd (omega arith)
 read_at seq limit fed skim Whole at none right = at
 read_at seq limit fed skim (Wrong fault) at none right = absurd (cc)
 
-pub read_of : (seq limit : ℕ) (fed : List ℕ) (skim : Skimmed) → Skims seq limit fed skim → wanted skim ≡ 0 → fault_of skim ≡ None → IsRead seq limit fed skim
+pub read_of : (seq limit : ℕ) (fed : List ℕ) (skim : Skimmed) → Skims seq limit fed skim → wanted skim ≡ 0 → fault_of skim ≡ None → IsReadWhole seq limit fed skim
 read_of seq limit fed skim skims none right = read_at seq limit fed skim skim.stage skims.at none right

@@ -20,10 +20,10 @@ IsWrong limit id bytes (BadSequence found wanted) = HasWrongId limit id found wa
 IsWrong limit id bytes (TooLong size) = IsTooLong limit id size bytes
 
 -- what the bytes begin with
-abbrev pub Begins : ℕ → ℕ → List ℕ → Front → Type 0
-Begins limit id bytes (Whole size) = IsSplit limit id size bytes
-Begins limit id bytes (Part more) = IsPart limit id more bytes
-Begins limit id bytes (Wrong fault) = IsWrong limit id bytes fault
+abbrev pub HasFront : ℕ → ℕ → List ℕ → Front → Type 0
+HasFront limit id bytes (Whole size) = IsSplit limit id size bytes
+HasFront limit id bytes (Part more) = IsPart limit id more bytes
+HasFront limit id bytes (Wrong fault) = IsWrong limit id bytes fault
 
 -- the bytes begin with a whole packet of so many payload bytes, at most so many as there is room for
 pub record IsPacketSplit (room id size : ℕ) (bytes : List ℕ) : Type 0 where
@@ -54,5 +54,6 @@ pub record IsPacketPast (room id size : ℕ) (bytes : List ℕ) : Type 0 where
 abbrev pub BeginsPacket : ℕ → ℕ → List ℕ → Front → Type 0
 BeginsPacket room id bytes (Whole size) = IsPacketSplit room id size bytes
 BeginsPacket room id bytes (Part more) = IsPacketPart room id more bytes
-BeginsPacket room id bytes (Wrong (BadSequence found wanted)) = IsPacketOfOther id found wanted bytes
+BeginsPacket room id bytes (Wrong (BadSequence found wanted)) =
+    IsPacketOfOther id found wanted bytes
 BeginsPacket room id bytes (Wrong (TooLong size)) = IsPacketPast room id size bytes

@@ -45,12 +45,13 @@ pub record IsPart (limit id more : ℕ) (bytes : List ℕ) : Type 0 where
   pub some : 0 < more
 
 -- a message is whole or wrong
-abbrev pub IsSettled : ℕ → ℕ → List ℕ → Type 0
-IsSettled limit id bytes =
+abbrev pub IsDecided : ℕ → ℕ → List ℕ → Type 0
+IsDecided limit id bytes =
     ((message : List ℕ) × (after : List ℕ) × HasMessage limit id message bytes after)
-    ⊎ (((found : ℕ) × (wanted : ℕ) × HasWrongId limit id found wanted bytes) ⊎ ((size : ℕ) × IsTooLong limit id size bytes))
+    ⊎ (((found : ℕ) × (wanted : ℕ) × HasWrongId limit id found wanted bytes)
+    ⊎ ((size : ℕ) × IsTooLong limit id size bytes))
 
 -- how many bytes are wanted: 0 where a message is whole or wrong, else those that are missing
 pub record Wants (limit id : ℕ) (bytes : List ℕ) (more : ℕ) : Type 0 where
-  pub settled : more ≡ 0 → IsSettled limit id bytes
+  pub settled : more ≡ 0 → IsDecided limit id bytes
   pub part : 0 < more → IsPart limit id more bytes

@@ -33,7 +33,7 @@ pub record IsInPacket (seq limit size left : ℕ) (fed : List ℕ) (skim : Skimm
   pub id : skim.id ≡ id_after count seq
 
 -- a whole message, and no more
-pub record IsRead (seq limit : ℕ) (fed : List ℕ) (skim : Skimmed) : Type 0 where
+pub record IsReadWhole (seq limit : ℕ) (fed : List ℕ) (skim : Skimmed) : Type 0 where
   pub message : List ℕ
   pub whole : HasMessage limit seq message fed []
   pub kept : skim.kept ≡ take 1024 message
@@ -51,7 +51,7 @@ pub record IsBroken (seq limit : ℕ) (fault : FrameFault) (fed : List ℕ) : Ty
 abbrev pub IsAt : ℕ → ℕ → List ℕ → Skimmed → Stage → Type 0
 IsAt seq limit fed skim Header = IsInHeader seq limit fed skim
 IsAt seq limit fed skim (Packet size left) = IsInPacket seq limit size left fed skim
-IsAt seq limit fed skim Whole = IsRead seq limit fed skim
+IsAt seq limit fed skim Whole = IsReadWhole seq limit fed skim
 IsAt seq limit fed skim (Wrong fault) = IsBroken seq limit fault fed
 
 -- a skim that awaited this sequence id first, with this limit, was fed these bytes
@@ -71,21 +71,27 @@ abbrev pub wanted : Skimmed → ℕ
 wanted skim = wanted_at skim.stage skim.header
 
 -- the fault of a stage, where a packet was wrong
-abbrev pub fault_at : Stage → Option FrameFault
-fault_at Header = None
-fault_at (Packet size left) = None
-fault_at Whole = None
-fault_at (Wrong fault) = Some fault
+abbrev pub skim_fault : Stage → Option FrameFault
+skim_fault Header = None
+skim_fault (Packet size left) = None
+skim_fault Whole = None
+skim_fault (Wrong fault) = Some fault
 
 -- the fault that a skim answers from now on, where a packet was wrong
 abbrev pub fault_of : Skimmed → Option FrameFault
-fault_of skim = fault_at skim.stage
+fault_of skim = skim_fault skim.stage
 
 -- what feeding does to a skim: the bytes follow those that it was fed before, and a fault comes exactly where a packet is wrong
-pub record Feeds (old : Skimmed) (piece : List ℕ) (result : Result (Unit {0}) FrameFault) (new : Skimmed) : Type 0 where
-  pub follows : (seq limit : ℕ) (fed : List ℕ) → Skims seq limit fed old → Skims seq limit (fed ++ piece) new
-  pub right : OnOk result ((seq limit : ℕ) (fed : List ℕ) → Skims seq limit fed old → (fault : FrameFault) → ¬ IsWrong limit seq (fed ++ piece) fault)
-  pub wrong : IfErr result (λ fault. (seq limit : ℕ) (fed : List ℕ) → Skims seq limit fed old → IsWrong limit seq (fed ++ piece) fault)
+pub record Feeds (old : Skimmed) (piece : List ℕ) (result : Result (Unit {0}) FrameFault)
+    (new : Skimmed) : Type 0 where
+  pub follows : (seq limit : ℕ) (fed : List ℕ) → Skims seq limit fed old →
+      Skims seq limit (fed ++ piece) new
+  pub right : OnOk result
+      ((seq limit : ℕ) (fed : List ℕ) → Skims seq limit fed old → (fault : FrameFault) →
+      ¬ IsWrong limit seq (fed ++ piece) fault)
+  pub wrong : IfErr result
+      (λ fault. (seq limit : ℕ) (fed : List ℕ) → Skims seq limit fed old →
+      IsWrong limit seq (fed ++ piece) fault)
   -- from a fault on nothing is wanted, and the same fault is answered again
   pub stands : MatchResult result (λ _. fault_of new ≡ None) (λ fault. fault_of new ≡ Some fault)
   pub spent : OnErr result (wanted new ≡ 0)

@@ -22,7 +22,7 @@ pub record Waits (old new : Unread) : Type 0 where
   pub same : new ≡ old
 
 -- a packet is wrong, and nothing changes
-pub record Refuses (fault : FrameFault) (old new : Unread) : Type 0 where
+pub record RefusesPacket (fault : FrameFault) (old new : Unread) : Type 0 where
   pub why : IsWrong old.limit old.id old.bytes fault
   pub same : new ≡ old
 
@@ -30,7 +30,7 @@ pub record Refuses (fault : FrameFault) (old new : Unread) : Type 0 where
 abbrev pub Steps : Unread → Result Bool FrameFault → Unread → Type 0
 Steps old (Ok true) new = Passes old new
 Steps old (Ok false) new = Waits old new
-Steps old (Err fault) new = Refuses fault old new
+Steps old (Err fault) new = RefusesPacket fault old new
 
 -- a message as it is handed out, where a reader read it last
 pub record Shows (message : Message) (unread : Unread) : Type 0 where
@@ -42,4 +42,4 @@ pub record Shows (message : Message) (unread : Unread) : Type 0 where
 abbrev pub HandsOut : Unread → Result (Option Message) FrameFault → Unread → Type 0
 HandsOut old (Ok (Some message)) new = Passes old new × Shows message new
 HandsOut old (Ok None) new = Waits old new
-HandsOut old (Err fault) new = Refuses fault old new
+HandsOut old (Err fault) new = RefusesPacket fault old new

@@ -2,7 +2,7 @@
 ghost use Rattle.std.specs.Prelude.{ℕ, List, ◌≡◌, ◌+◌, ◌-◌, ◌*◌, ◌<◌, ◌≤◌, ◌^◌, ◌++◌, [], length, drop, vec_len, vec_capacity, IfOk, OnOk, OnErr};
 ghost use Rattle.std.specs.Borrow.{sem};
 ghost use Rattle.std.specs.Io.BufRead.{Rests};
-ghost use Rattle.my_packets.specs.Begins.{Begins, BeginsPacket};
+ghost use Rattle.my_packets.specs.Begins.{HasFront, BeginsPacket};
 ghost use Rattle.my_packets.specs.Front.{Wants};
 ghost use Rattle.my_packets.specs.Joins.{JoinsAt, ClosesAt};
 ghost use Rattle.wire_forms.specs.Packet.{packet_count};
@@ -102,7 +102,7 @@ fn packet_front(bytes: &[u8], id: u8, room: u32) -> Front
 // What the bytes begin with, where the next packet has to have this sequence id.
 #[inline]
 fn front_of(bytes: &[u8], id: u8, limit: u32) -> Front
-    ensures { Begins limit id bytes.now result }
+    ensures { HasFront limit id bytes.now result }
 {
     match packet_front(bytes, id, limit) {
         Front::Whole(size) => {
@@ -120,7 +120,7 @@ fn front_of(bytes: &[u8], id: u8, limit: u32) -> Front
 #[cold]
 #[inline(never)]
 fn front_of_full(bytes: &[u8], id: u8, limit: u32) -> Front
-    ensures { Begins limit id bytes.now result }
+    ensures { HasFront limit id bytes.now result }
 {
     let mut rest = bytes;
     let mut next = id;

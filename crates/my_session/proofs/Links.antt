@@ -4,7 +4,7 @@ use Rattle.std.proofs.lemmas.Bool.{false≢true}
 use Rattle.honest_server.specs.Exchange.{Replies, packets_from}
 use Rattle.honest_server.specs.Link.{ServedLink, Sends, Receives, IsExchanged}
 use Rattle.honest_server.specs.Moves.{plainly}
-use Rattle.link_traits.specs.Link.{Receives as TakesTold, StaysLink, stream, concatenation}
+use Rattle.link_traits.specs.Link.{ReceivesAsTold as TakesTold, StaysLink, stream, concatenation}
 use Rattle.link_traits.specs.declared.link.Link.{Ghosts}
 use Rattle.wire_forms.specs.Packet.{packets, packet_count, id_after}
 use Rattle.my_session.proofs.Effects.{exchanges_terms, breaks_terms}

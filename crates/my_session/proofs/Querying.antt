@@ -6,7 +6,8 @@ use Rattle.std.proofs.lemmas.List.{map-append}
 use Rattle.wire_forms.specs.Reading.{Reading, Further, definition, row, garbled, awaited_count, columns_counted, further_of, reading_after, definition_if, end_if, refused_if, row_if, row_of, is_before_rows, is_in_ends_place, is_end_packet}
 use Rattle.wire_forms.specs.Reply.{refusal_of}
 use Rattle.wire_forms.specs.declared.ends.Ends.{Ends}
-use Rattle.wire_forms.specs.Row.{Cell, cells_of}
+use Rattle.plain_data.specs.Cell.{Cell}
+use Rattle.wire_forms.specs.Row.{cells_of}
 use Rattle.wire_forms.specs.ResultSet.{turns_of}
 use Rattle.wire_forms.specs.declared.refusal.Refusal.{Refusal}
 use Rattle.result_rows.specs.RowCells.{row_cells}
@@ -26,7 +27,8 @@ use Rattle.my_session.specs.Halt.{Halts, Unsaid, Stops, at_message, at_payload}
 use Rattle.my_session.specs.Heard.{HearsReply, HearsDefinition, IsRowOf}
 use Rattle.my_session.specs.Lead.{lead_of}
 use Rattle.my_session.specs.Session.{Runs, rows_awaited}
-use Rattle.my_session.specs.Statements.{IsRun, RunAwaits, RunSends, IsLedBy, LeadAwaitsBy, LeadSendsBy, IsLed, LeadAwaits, LeadSends, IsAsked, IsDescribed, QueryAwaits, a_lead, a_count, a_definition, QuerySends, the_lead, the_query, query_payload}
+use Rattle.honest_server.specs.Exchange.{query_payload}
+use Rattle.my_session.specs.Statements.{IsRun, RunAwaits, RunSends, IsLedBy, LeadAwaitsBy, LeadSendsBy, IsLed, LeadAwaits, LeadSends, IsAsked, IsDescribed, QueryAwaits, a_lead, a_count, a_definition, QuerySends, the_lead, the_query}
 use Rattle.my_session.specs.Wire.{Wire, Step, commands, hears, ends, Takes, Sent}
 use Rattle.my_session.specs.declared.fault.SessionFault.{SessionFault}
 

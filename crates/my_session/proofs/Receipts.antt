@@ -2,7 +2,7 @@
 use Rattle.std.proofs.Common.{◌≡◌, ◌≤◌, ◌<◌, ◌+◌, ◌-◌, ◌*◌, ◌^◌, ◌↔◌, ℕ, Bool, true, false, List, [], ◌++◌, length, take, refl, sym, ◌∙◌, ap, subst, inl, inr, arith, append_assoc, length-append, Result, Ok, Err, OnOk, OnErr, IfErr, ◌≢◌}
 use Rattle.std.proofs.lemmas.List.{append-nil, length-take-le, take-append-le}
 use Rattle.honest_server.specs.Link.{Receives as TakesServed}
-use Rattle.link_traits.specs.Link.{Receives, stream}
+use Rattle.link_traits.specs.Link.{ReceivesAsTold, stream}
 use Rattle.link_traits.specs.declared.link.Link.{Ghosts}
 use Rattle.my_packets.proofs.Fronts.{one_front}
 use Rattle.my_packets.proofs.Packets.{packets_length}
@@ -44,7 +44,7 @@ settled_waits_not old new false wants is waits = settled_is_no_part old.limit ol
 
 module _ {L : Type 0} (of : Ghosts L) where
   -- a piece that was taken off a link
-  pub fetches_piece : (old new : L) (E : Type 0) (wants : ℕ) (before now : Unread) (taken count : ℕ) (buffer rest : List ℕ) → (of.tells old → Receives {E = E} (of.told old) buffer (Ok count) (of.told new)) → (of.honest old → TakesServed {E = E} (of.served old) buffer (Ok count) (of.served new))
+  pub fetches_piece : (old new : L) (E : Type 0) (wants : ℕ) (before now : Unread) (taken count : ℕ) (buffer rest : List ℕ) → (of.tells old → ReceivesAsTold {E = E} (of.told old) buffer (Ok count) (of.told new)) → (of.honest old → TakesServed {E = E} (of.served old) buffer (Ok count) (of.served new))
       → now ≡ record before { message = []; bytes = before.bytes ++ take count (buffer ++ rest) } → 0 < count → count ≤ length buffer → length buffer ≤ wants
       → Fetches of wants (reader_at old before taken) (reader_at new now (taken + count))
   fetches_piece old new E wants before now taken count buffer rest received served now_is some fits few =

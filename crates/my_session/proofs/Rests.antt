@@ -2,14 +2,14 @@
 use Rattle.std.proofs.Common.{None, ◌≡◌, ℕ, zero, suc, List, [], ◌∷◌, ◌++◌, map, replicate, refl, sym, ◌∙◌, ap, subst, inl, inr, Option, Some}
 use Rattle.honest_server.specs.Exchange.{Replies, accepted, switched, turned_away, quits, served, unknown, ignored, query_payload, IsLoggingIn}
 use Rattle.honest_server.specs.Serve.{Reply, done, rows, refused}
-use Rattle.honest_server.specs.Spelled.{Spells, SpellsErr, BreaksOff, SpellsRowsOf, sent_rows}
+use Rattle.honest_server.specs.Spelled.{SpellsReply, SpellsErr, BreaksOff, SpellsRowsOf, sent_rows}
 use Rattle.honest_server.specs.Moves.{Way}
 use Rattle.honest_server.specs.State.{Server, State, Terms, Phase, in_session}
 use Rattle.result_rows.proofs.ResultSets.{set-taken}
 use Rattle.wire_forms.specs.Reading.{Reading, Further, definition, row, end, refused as refused_turn, garbled, awaited_count, columns_counted, further_of, reading_after}
 use Rattle.wire_forms.specs.Reply.{reply_of}
 use Rattle.wire_forms.specs.ResultSet.{turns_of}
-use Rattle.wire_forms.specs.Row.{Cell}
+use Rattle.plain_data.specs.Cell.{Cell}
 use Rattle.wire_forms.specs.declared.ends.Ends.{Ends}
 use Rattle.wire_forms.specs.declared.refusal.Refusal.{Refusal}
 use Rattle.wire_forms.specs.declared.reply.Reply.{Reply as FirstReply}
@@ -85,7 +85,7 @@ broken_reply server query found refusal messages breaks = record {
   follows = subst (λ (r : Option FirstReply). Follows server.ends r breaks.others) (sym breaks.counts) (completes_turns (awaited_count server.ends breaks.columns) (columns_counted server.ends breaks.columns) (sent_rows found) (refused_turn refusal) breaks.others tt breaks.turns);
 }
 
-spelled_reply : (server : Server) (statement : Statement) (reply : Reply) (messages : List (List ℕ)) → Spells server statement reply messages → IsReply server.ends messages
+spelled_reply : (server : Server) (statement : Statement) (reply : Reply) (messages : List (List ℕ)) → SpellsReply server statement reply messages → IsReply server.ends messages
 spelled_reply server (SomeCommand command) done messages spells = reply_alone server.ends spells.message messages _ spells.messages_are spells.says refl
 spelled_reply server (SomeCommand command) (rows found) messages spells = absurd spells
 spelled_reply server (SomeCommand command) (refused found refusal) messages spells = err_reply server refusal messages spells

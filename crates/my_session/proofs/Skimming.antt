@@ -2,14 +2,14 @@
 use Rattle.std.proofs.Common.{◌≡◌, ◌≤◌, ◌<◌, ◌+◌, ◌-◌, ◌*◌, ◌/◌, ◌^◌, ◌↔◌, ◌≢◌, ℕ, List, [], ◌++◌, length, take, refl, sym, ◌∙◌, ap, subst, arith, append_assoc, length-append, None, Ok, Err}
 use Rattle.std.proofs.lemmas.List.{append-nil, length-take-le, take-append-le}
 use Rattle.honest_server.specs.Link.{Receives as TakesServed}
-use Rattle.link_traits.specs.Link.{Receives, stream}
+use Rattle.link_traits.specs.Link.{ReceivesAsTold, stream}
 use Rattle.link_traits.specs.declared.link.Link.{Ghosts}
 use Rattle.my_packets.proofs.Packets.{packets_length}
 use Rattle.my_packets.specs.Begins.{IsWrong}
 use Rattle.my_packets.specs.Front.{IsPart, Wants}
 use Rattle.wire_forms.specs.Packet.{packets, packet_count, id_after}
 use Rattle.my_packets.specs.Skimmed.{Skimmed}
-use Rattle.my_packets.specs.Skims.{Skims, IsAt, IsRead, wanted, Feeds, wanted_at, fault_of, fault_at}
+use Rattle.my_packets.specs.Skims.{Skims, IsAt, IsReadWhole, wanted, Feeds, wanted_at, fault_of, skim_fault}
 use Rattle.my_packets.specs.declared.frames.FrameFault.{FrameFault}
 use Rattle.my_packets.specs.declared.frames.FrameFault.TheVariants.{BadSequence, TooLong as FrameTooLong}
 use Rattle.my_packets.specs.declared.skim.Stage.{Stage}
@@ -27,7 +27,7 @@ use Rattle.my_session.specs.declared.fault.SessionFault.{SessionFault}
 use Rattle.my_session.specs.declared.fault.SessionFault.TheVariants.{Link, Refused, Garbled, NotProtocol10, PluginUnsupported, TooLong, StreamTooLong, OutOfMemory}
 
 -- a skim that wants nothing, and found nothing wrong, has read the message
-read_at : (seq limit : ℕ) (fed : List ℕ) (skim : Skimmed) (stage : Stage) → IsAt seq limit fed skim stage → wanted_at stage skim.header ≡ 0 → fault_at stage ≡ None → IsRead seq limit fed skim
+read_at : (seq limit : ℕ) (fed : List ℕ) (skim : Skimmed) (stage : Stage) → IsAt seq limit fed skim stage → wanted_at stage skim.header ≡ 0 → skim_fault stage ≡ None → IsReadWhole seq limit fed skim
 read_at seq limit fed skim Header at none right = let less = at.less in absurd (omega arith)
 read_at seq limit fed skim (Packet size left) at none right = let some = at.some in absurd (omega arith)
 read_at seq limit fed skim Whole at none right = at
@@ -38,7 +38,7 @@ counted_by : (size count bytes : ℕ) → count ≡ size / 16777215 + 1 → byte
 counted_by size count bytes count_is bytes_is = omega arith
 
 module _ {L : Type 0} (of : Ghosts L) where
-  pub skims_piece : (old new : L) (E : Type 0) (before now : Skimmed) (done : Unit {0}) (taken count : ℕ) (buffer rest : List ℕ) → (of.tells old → Receives {E = E} (of.told old) buffer (Ok count) (of.told new)) → (of.honest old → TakesServed {E = E} (of.served old) buffer (Ok count) (of.served new))
+  pub skims_piece : (old new : L) (E : Type 0) (before now : Skimmed) (done : Unit {0}) (taken count : ℕ) (buffer rest : List ℕ) → (of.tells old → ReceivesAsTold {E = E} (of.told old) buffer (Ok count) (of.told new)) → (of.honest old → TakesServed {E = E} (of.served old) buffer (Ok count) (of.served new))
       → Feeds before (take count (buffer ++ rest)) (Ok done) now → 0 < count → count ≤ length buffer
       → SkimsPiece of (skimmer_at old before taken) (skimmer_at new now (taken + count))
   skims_piece old new E before now done taken count buffer rest received served feeds some fits =
@@ -55,7 +55,7 @@ module _ {L : Type 0} (of : Ghosts L) where
         gives = λ h. subst (λ (l : List ℕ). Gives of l old new) (sym is) (recv_gives of old new E buffer count served h);
       }
 
-  pub spoils_piece : (old new : L) (E : Type 0) (before now : Skimmed) (fault : FrameFault) (taken count : ℕ) (buffer rest : List ℕ) → (of.tells old → Receives {E = E} (of.told old) buffer (Ok count) (of.told new)) → Feeds before (take count (buffer ++ rest)) (Err fault) now → count ≤ length buffer → taken + count ≤ 2 ^ 62
+  pub spoils_piece : (old new : L) (E : Type 0) (before now : Skimmed) (fault : FrameFault) (taken count : ℕ) (buffer rest : List ℕ) → (of.tells old → ReceivesAsTold {E = E} (of.told old) buffer (Ok count) (of.told new)) → Feeds before (take count (buffer ++ rest)) (Err fault) now → count ≤ length buffer → taken + count ≤ 2 ^ 62
       → Spoils of (skimmer_at old before taken) new fault
   spoils_piece old new E before now fault taken count buffer rest received feeds fits inside =
       let is : take count (buffer ++ rest) ≡ take count buffer = take-append-le count buffer rest fits in
@@ -120,7 +120,7 @@ module _ {L : Type 0} (of : Ghosts L) where
 
     module _ (inside : taken ≤ 2 ^ 62) where
       module _ (wants : wanted skim ≡ 0) where
-        read : IsRead seq 67108864 drains.fed skim
+        read : IsReadWhole seq 67108864 drains.fed skim
         read = read_at seq 67108864 drains.fed skim skim.stage drains.skims.at wants drains.right
 
         fed_is : drains.fed ≡ packets seq read.message

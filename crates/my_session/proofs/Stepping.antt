@@ -18,7 +18,7 @@ use Rattle.my_packets.proofs.Fronts.{same_packets}
 use Rattle.wire_forms.specs.Packet.{packets, packet_count, id_after}
 use Rattle.wire_forms.specs.Reading.{Reading, Further, definition, row, end, refused, garbled, idle, columns_counted, further_of, reading_after}
 use Rattle.wire_forms.specs.Reply.{reply_of}
-use Rattle.wire_forms.specs.Row.{Cell}
+use Rattle.plain_data.specs.Cell.{Cell}
 use Rattle.wire_forms.specs.declared.refusal.Refusal.{Refusal}
 use Rattle.wire_forms.specs.declared.reply.Reply.{Reply}
 use Rattle.wire_forms.specs.declared.reply.Reply.TheVariants.{Done, Refused as IsRefused, Columns}

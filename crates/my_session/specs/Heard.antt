@@ -9,7 +9,8 @@ use Rattle.wire_forms.specs.Reading.{Reading, definition, row, end, idle, column
 use Rattle.wire_forms.specs.Reply.{reply_of}
 use Rattle.wire_forms.specs.declared.reply.Reply.{Reply}
 use Rattle.wire_forms.specs.declared.reply.Reply.TheVariants.{Done, Refused, Columns}
-use Rattle.wire_forms.specs.Row.{Cell, cells_of}
+use Rattle.plain_data.specs.Cell.{Cell}
+use Rattle.wire_forms.specs.Row.{cells_of}
 use Rattle.statement_forms.specs.declared.form.Form.{Form}
 use Rattle.my_session.specs.Awaited.{decision, fault_at, further_fault}
 use Rattle.my_session.specs.Login.{IsGreeted, IsAccepted, LoginAwaits, LoginSends}

@@ -10,7 +10,7 @@ use Rattle.wire_forms.specs.Packet.{packets}
 use Rattle.object_forms.specs.Head.{HasHead}
 use Rattle.wire_forms.specs.Reading.{Reading, definition, row, end, refused, columns_counted, further_of, reading_after}
 use Rattle.wire_forms.specs.Reply.{reply_of}
-use Rattle.wire_forms.specs.Row.{Cell}
+use Rattle.plain_data.specs.Cell.{Cell}
 use Rattle.wire_forms.specs.declared.reply.Reply.{Reply}
 use Rattle.wire_forms.specs.declared.reply.Reply.TheVariants.{Done, Refused, Columns}
 use Rattle.wire_forms.specs.declared.refusal.Refusal.{Refusal}

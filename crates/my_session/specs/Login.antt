@@ -13,7 +13,7 @@ use Rattle.statement_forms.specs.declared.command.Command.TheVariants.{SetUp}
 use Rattle.statement_forms.specs.declared.form.Form.TheVariants.{Connect, Set}
 use Rattle.my_session.specs.Awaited.{Awaited, greeting, decision, done, fault_at}
 use Rattle.my_session.specs.Peer.{peer_of}
-use Rattle.my_session.specs.Statements.{query_payload}
+use Rattle.honest_server.specs.Exchange.{query_payload}
 use Rattle.my_session.specs.Wire.{Step, commands, answers, hears}
 use Rattle.my_session.specs.declared.peer.Peer.{Peer}
 

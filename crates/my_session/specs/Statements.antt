@@ -1,5 +1,6 @@
 -- Statements and their replies (MySQL source documentation, COM_QUERY, COM_QUERY Response, ProtocolText::Resultset).
 use Rattle.std.specs.Prelude.{ℕ, ◌≡◌, ◌-◌, List, [], ◌∷◌, ◌++◌, length, map, replicate, Option, Some, None}
+use Rattle.honest_server.specs.Exchange.{query_payload}
 use Rattle.wire_forms.specs.Reading.{Reading, definition, awaited_count, columns_counted}
 use Rattle.wire_forms.specs.Reply.{reply_of}
 use Rattle.wire_forms.specs.ResultSet.{turns_of}
@@ -13,10 +14,6 @@ use Rattle.statement_forms.specs.declared.query.Query.{Query}
 use Rattle.my_session.specs.Awaited.{Awaited, done, count, further}
 use Rattle.my_session.specs.Lead.{lead_of}
 use Rattle.my_session.specs.Wire.{Step, commands, hears}
-
--- COM_QUERY: 03 and the text
-abbrev pub query_payload : List ℕ → List ℕ
-query_payload text = 3 ∷ text
 
 -- the payload of a command
 abbrev pub command_payload : Command → List ℕ

@@ -14,7 +14,8 @@ ghost use Rattle.my_session.specs.InStep.{AwaitsDefinition, AwaitsReply, AwaitsR
 ghost use Rattle.my_session.specs.Lead.{lead_of};
 ghost use Rattle.my_session.specs.Serving.{KeepsLink};
 ghost use Rattle.my_session.specs.Session.{Asks, Describes, EndsStatement, IsOfStatement, LeadStops, failed_by, rows_awaited};
-ghost use Rattle.my_session.specs.Statements.{IsLed, query_payload};
+ghost use Rattle.honest_server.specs.Exchange.{query_payload};
+ghost use Rattle.my_session.specs.Statements.{IsLed};
 ghost use Rattle.my_session.specs.Wire.{Hears, Takes};
 
 use crate::channel::Channel;

@@ -31,20 +31,24 @@ kind_of token =
 -- the first word that says a kind
 abbrev pub kind_in : List Token → Option (Found Kind)
 kind_in [] = None
-kind_in (token ∷ rest) = option_or (option_map (λ kind. record { value = kind; rest = rest }) (kind_of token)) (kind_in rest)
+kind_in (token ∷ rest) =
+    option_or (option_map (λ kind. record { value = kind; rest = rest }) (kind_of token))
+    (kind_in rest)
 
 -- the tokens after one at the front that passes the test
-abbrev pub after : (Token → Bool) → List Token → Option (List Token)
-after test [] = None
-after test (token ∷ rest) = if test token then Some rest else None
+abbrev pub after_token : (Token → Bool) → List Token → Option (List Token)
+after_token test [] = None
+after_token test (token ∷ rest) = if test token then Some rest else None
 
 -- the tokens after a word, which is given in lower case, past white space and comments
 abbrev pub after_word : List ℕ → List Token → Option (List Token)
-after_word lower tokens = after (is_word lower) (past_gaps tokens)
+after_word lower tokens = after_token (is_word lower) (past_gaps tokens)
 
 -- the tokens after the words IF NOT EXISTS
 abbrev pub after_exists : List Token → Option (List Token)
-after_exists tokens = option_and_then (after_word (codes "exists")) (option_and_then (after_word (codes "not")) (after_word (codes "if") tokens))
+after_exists tokens =
+    option_and_then (after_word (codes "exists"))
+    (option_and_then (after_word (codes "not")) (after_word (codes "if") tokens))
 
 -- a name is between backquotes or is a word
 abbrev pub name_of : Token → Option (List ℕ)
@@ -63,12 +67,14 @@ name_in tokens = name_at (past_gaps tokens)
 
 -- a dot and a name
 abbrev pub dotted_name : List Token → Option (Found (List ℕ))
-dotted_name tokens = option_and_then name_in (after (is_mark 46) (past_gaps tokens))
+dotted_name tokens = option_and_then name_in (after_token (is_mark 46) (past_gaps tokens))
 
 -- a name alone, or after the name of a schema
 abbrev pub with_schema : Found (List ℕ) → Option (Found (List ℕ)) → Found Path
-with_schema first None = record { value = record { schema = None; name = first.value }; rest = first.rest }
-with_schema first (Some second) = record { value = record { schema = Some first.value; name = second.value }; rest = second.rest }
+with_schema first None =
+    record { value = record { schema = None; name = first.value }; rest = first.rest }
+with_schema first (Some second) =
+    record { value = record { schema = Some first.value; name = second.value }; rest = second.rest }
 
 -- a name, or a schema, a dot and a name
 abbrev pub path_in : List Token → Option (Found Path)
@@ -81,12 +87,18 @@ pub record Making : Type 0 where
 
 -- the name after a kind: after the words IF NOT EXISTS, where these stand there and a name after them
 abbrev pub making_after : Found Kind → Option (Found Making)
-making_after kind = option_map (λ path. record { value = record { kind = kind.value; path = path.value }; rest = path.rest })
+making_after kind =
+    option_map (λ path. record {
+      value = record { kind = kind.value; path = path.value };
+      rest = path.rest;
+    })
     (option_or (option_and_then path_in (after_exists kind.rest)) (path_in kind.rest))
 
 -- the head: the word CREATE, tokens up to the first word that says a kind, that word, and the name.
 abbrev pub head_in : List Token → Option (Found Making)
-head_in tokens = option_and_then making_after (option_and_then kind_in (after (is_word (codes "create")) tokens))
+head_in tokens =
+    option_and_then making_after
+    (option_and_then kind_in (after_token (is_word (codes "create")) tokens))
 
 -- the head of a text, and the tokens after it
 abbrev pub head : List ℕ → Option (Found Making)
@@ -127,7 +139,9 @@ is_table Event = false
 
 -- the table of a trigger's text: the one named after the first word ON after the head
 abbrev pub table_of : Found Making → Option Path
-table_of found = if is_trigger found.value.kind then option_map (λ path. path.value) (option_and_then path_in (after_on found.rest)) else None
+table_of found =
+    if is_trigger found.value.kind
+    then option_map (λ path. path.value) (option_and_then path_in (after_on found.rest)) else None
 
 -- the table that a text names for its trigger; none where the text makes no trigger or no name stands after the first word ON
 abbrev pub trigger_table : List ℕ → Option Path

@@ -3,6 +3,7 @@ use Rattle.std.specs.Prelude.{ℕ, zero, suc, ◌+◌, ◌-◌, ◌==◌, ◌&&�
 use Rattle.std.specs.List.{prefix_len}
 use Rattle.std.specs.Option.{option_map}
 use Rattle.std.specs.Char.{to_ascii_lowercase}
+use Rattle.plain_data.specs.Byte.{is_white}
 
 -- a token of a text, with the bytes of a word, of a name between backquotes or of a mark
 pub data Token : Type 0 where
@@ -23,11 +24,9 @@ pub data Token : Type 0 where
 
 -- a letter or a digit of ASCII, `_`, `$`, or a byte from 80 on
 abbrev pub is_word_byte : ℕ → Bool
-is_word_byte byte = (nat_le 48 byte && nat_le byte 57) || (nat_le 65 byte && nat_le byte 90) || (nat_le 97 byte && nat_le byte 122) || byte == 95 || byte == 36 || nat_le 128 byte
-
--- a space, a tab, a line feed or a carriage return
-abbrev pub is_white : ℕ → Bool
-is_white byte = byte == 32 || byte == 9 || byte == 10 || byte == 13
+is_word_byte byte =
+    (nat_le 48 byte && nat_le byte 57) || (nat_le 65 byte && nat_le byte 90) ||
+    (nat_le 97 byte && nat_le byte 122) || byte == 95 || byte == 36 || nat_le 128 byte
 
 -- a backquote, a single or a double quote
 abbrev pub is_quote : ℕ → Bool
@@ -43,7 +42,8 @@ closing quote [] = None
 closing quote (byte ∷ []) = if byte == quote then Some 1 else None
 closing quote (byte ∷ next ∷ bytes) =
     if byte == quote then (if next == quote then more 2 (closing quote bytes) else Some 1)
-    else (if byte == 92 && not (quote == 96) then more 2 (closing quote bytes) else more 1 (closing quote (next ∷ bytes)))
+    else (if byte == 92 && not (quote == 96) then more 2 (closing quote bytes)
+    else more 1 (closing quote (next ∷ bytes)))
 
 -- a star and a slash
 abbrev pub ends_comment : ℕ → ℕ → Bool
@@ -53,7 +53,8 @@ ends_comment byte next = byte == 42 && next == 47
 abbrev pub comment_end : List ℕ → Option ℕ
 comment_end [] = None
 comment_end (byte ∷ []) = None
-comment_end (byte ∷ next ∷ bytes) = if ends_comment byte next then Some 2 else more 1 (comment_end (next ∷ bytes))
+comment_end (byte ∷ next ∷ bytes) =
+    if ends_comment byte next then Some 2 else more 1 (comment_end (next ∷ bytes))
 
 -- a token, and how many bytes it has
 pub record Lexeme : Type 0 where
@@ -67,7 +68,12 @@ word_lexeme bytes size = record { size = size; token = word (take size bytes) }
 -- what begins with a quote, after which its end comes at that place
 abbrev pub quoted_lexeme : ℕ → List ℕ → Option ℕ → Lexeme
 quoted_lexeme quote bytes None = record { size = suc (length bytes); token = unended }
-quoted_lexeme quote bytes (Some size) = record { size = suc size; token = if quote == 96 then quoted_name (take (size - 1) bytes) else string }
+quoted_lexeme quote bytes (Some size) =
+    record {
+      size = suc size;
+      token = if quote == 96 then quoted_name (take (size - 1) bytes)
+          else string;
+    }
 
 -- a comment, after whose beginning its end comes at that place
 abbrev pub comment_lexeme : List ℕ → Option ℕ → Lexeme
@@ -77,7 +83,9 @@ comment_lexeme bytes (Some size) = record { size = 2 + size; token = comment }
 -- what begins with a slash
 abbrev pub slash_lexeme : List ℕ → Lexeme
 slash_lexeme [] = record { size = 1; token = mark 47 }
-slash_lexeme (byte ∷ bytes) = if byte == 42 then comment_lexeme (byte ∷ bytes) (comment_end bytes) else record { size = 1; token = mark 47 }
+slash_lexeme (byte ∷ bytes) =
+    if byte == 42 then comment_lexeme (byte ∷ bytes) (comment_end bytes)
+    else record { size = 1; token = mark 47 }
 
 -- the first token of bytes that aren't empty
 abbrev pub first_token : List ℕ → Lexeme
@@ -93,7 +101,9 @@ first_token (byte ∷ bytes) =
 abbrev pub tokens_within : ℕ → List ℕ → List Token
 tokens_within zero bytes = []
 tokens_within (suc n) [] = []
-tokens_within (suc n) (byte ∷ bytes) = (first_token (byte ∷ bytes)).token ∷ tokens_within n (drop (first_token (byte ∷ bytes)).size (byte ∷ bytes))
+tokens_within (suc n) (byte ∷ bytes) =
+    (first_token (byte ∷ bytes)).token
+    ∷ tokens_within n (drop (first_token (byte ∷ bytes)).size (byte ∷ bytes))
 
 -- the tokens of a text
 unfoldable pub tokens : List ℕ → List Token

@@ -2,7 +2,7 @@
 use Rattle.std.proofs.Common.{◌≡◌, ℕ, suc, ◌<◌, ◌≤◌, ◌&&◌, Bool, true, false, cond, List, [], ◌∷◌, ◌++◌, length, Option, Some, None, option_map, is_some, codes, refl, sym, ◌∙◌, ap, arith, append_assoc, length-append}
 use Rattle.std.specs.Option.{option_and_then, option_or}
 use Rattle.std.specs.List.{list_all}
-use Rattle.object_forms.specs.Head.{Found, after, after_exists, dotted_name, head_in, kind_in, kind_of, name_at, making_after, path_in, with_schema}
+use Rattle.object_forms.specs.Head.{Found, after_token, after_exists, dotted_name, head_in, kind_in, kind_of, name_at, making_after, path_in, with_schema}
 use Rattle.object_forms.specs.declared.kind.Kind.{Kind}
 use Rattle.object_forms.specs.Token.{Token, is_gap, is_word, past_gaps}
 use Rattle.object_forms.specs.Token.Token.{comment, mark, quoted_name, string, unended, white, word}
@@ -10,7 +10,7 @@ use Rattle.object_texts.proofs.Fronts.{is_ended}
 use Rattle.object_texts.proofs.Utf8.{both_true}
 
 -- where no name stands in front, no word does
-after-no_name : (lower : List ℕ) (all : List Token) → name_at all ≡ None → after (is_word lower) all ≡ None
+after-no_name : (lower : List ℕ) (all : List Token) → name_at all ≡ None → after_token (is_word lower) all ≡ None
 after-no_name lower [] e = refl
 after-no_name lower (word bytes ∷ all) e = absurd (cc)
 after-no_name lower (quoted_name bytes ∷ all) e = refl
@@ -31,7 +31,7 @@ is_some-or (Some x) second e = refl
 -- after a kind an object is named exactly where a name comes next
 named-is : (kind : Found Kind) (name : Option (Found (List ℕ))) → name_at (past_gaps kind.rest) ≡ name → is_some (making_after kind) ≡ is_some name
 named-is kind None e =
-    let no_if : after (is_word (codes "if")) (past_gaps kind.rest) ≡ None = after-no_name (codes "if") (past_gaps kind.rest) e in
+    let no_if : after_token (is_word (codes "if")) (past_gaps kind.rest) ≡ None = after-no_name (codes "if") (past_gaps kind.rest) e in
     rw (no_if, e) refl
 named-is kind (Some name) e =
     let path : path_in kind.rest ≡ Some (with_schema name (dotted_name name.rest)) = rw e refl in
@@ -42,7 +42,7 @@ pub record Reaches (all rest : List Token) : Type 0 where
   pub created : List Token
   pub kind : Kind
   pub after_kind : List Token
-  pub create : after (is_word (codes "create")) all ≡ Some created
+  pub create : after_token (is_word (codes "create")) all ≡ Some created
   pub kinds : kind_in created ≡ Some (record { value = kind; rest = after_kind })
   pub gaps : past_gaps after_kind ≡ past_gaps rest
 
@@ -163,17 +163,17 @@ pub record IsFront (front : List Token) : Type 0 where
   pub ended : list_all is_ended front ≡ true
   pub goes_on : (others : List Token) → Reaches (front ++ others) others
 
-pub front-is : (created : Token) (front gaps after rest : List Token) (kind : Kind) → is_word (codes "create") created ≡ true → EndsLast (front ++ after) → kind_in (front ++ after) ≡ Some (record { value = kind; rest = after }) → after ≡ gaps ++ rest → past_gaps after ≡ rest → IsFront (created ∷ (front ++ gaps))
-front-is created front gaps after rest kind create last kinds split past =
+pub front-is : (created : Token) (front gaps after_token rest : List Token) (kind : Kind) → is_word (codes "create") created ≡ true → EndsLast (front ++ after_token) → kind_in (front ++ after_token) ≡ Some (record { value = kind; rest = after_token }) → after_token ≡ gaps ++ rest → past_gaps after_token ≡ rest → IsFront (created ∷ (front ++ gaps))
+front-is created front gaps after_token rest kind create last kinds split past =
     let passed : past_gaps (gaps ++ rest) ≡ rest = ap past_gaps (sym split) ∙ past in
     record {
-      ended = rw (word-ended (codes "create") created create) (all_both front gaps (kind_in-ended front after kind last kinds) (past-ended gaps rest passed));
+      ended = rw (word-ended (codes "create") created create) (all_both front gaps (kind_in-ended front after_token kind last kinds) (past-ended gaps rest passed));
       goes_on = λ others. record {
         created = front ++ (gaps ++ others);
         kind = kind;
         after_kind = gaps ++ others;
         create = rw create (ap (λ (all : List Token). Some all) (append_assoc front gaps others));
-        kinds = kind_in-front front after (gaps ++ others) kind kinds;
+        kinds = kind_in-front front after_token (gaps ++ others) kind kinds;
         gaps = past-front gaps rest others passed;
       };
     }

@@ -3,7 +3,7 @@ use Rattle.std.proofs.Common.{◌≡◌, ℕ, suc, zero, ◌+◌, ◌-◌, ◌<�
 use Rattle.std.proofs.lemmas.List.{append_cancel_right}
 use Rattle.grammar.specs.Language.{Begins, Refused}
 use Rattle.object_forms.specs.declared.kind.Kind.{Kind}
-use Rattle.object_forms.specs.Head.{HasHead, after, head, head_in, kind_in, name_at}
+use Rattle.object_forms.specs.Head.{HasHead, after_token, head, head_in, kind_in, name_at}
 use Rattle.object_forms.specs.Token.{left_after}
 use Rattle.sql_tokens.specs.Left.{IsLeft}
 use Rattle.object_forms.specs.Token.{Token, first_token, is_gap, is_word, past_gaps, tokens}
@@ -62,14 +62,14 @@ created-word : (test : Bool) (all created : List Token) → cond test (Some all)
 created-word true all created e = refl
 created-word false all created e = absurd (cc)
 
-pub is_created : (first : ℕ) (bytes created : List ℕ) → after (is_word (codes "create")) (tokens (first ∷ bytes)) ≡ Some (tokens created) → is_word (codes "create") (first_token (first ∷ bytes)).token ≡ true
+pub is_created : (first : ℕ) (bytes created : List ℕ) → after_token (is_word (codes "create")) (tokens (first ∷ bytes)) ≡ Some (tokens created) → is_word (codes "create") (first_token (first ∷ bytes)).token ≡ true
 is_created first bytes created e =
     let found = first_token (first ∷ bytes) in
-    created-word (is_word (codes "create") found.token) (tokens (drop found.size (first ∷ bytes))) (tokens created) (sym (ap (after (is_word (codes "create"))) (tokens-cons first bytes)) ∙ e)
+    created-word (is_word (codes "create") found.token) (tokens (drop found.size (first ∷ bytes))) (tokens created) (sym (ap (after_token (is_word (codes "create"))) (tokens-cons first bytes)) ∙ e)
 
 pub stands-from :
     (first : ℕ) (bytes created after_kind rest : List ℕ) (kind : Kind)
-    → after (is_word (codes "create")) (tokens (first ∷ bytes)) ≡ Some (tokens created) → created ≡ drop (first_token (first ∷ bytes)).size (first ∷ bytes)
+    → after_token (is_word (codes "create")) (tokens (first ∷ bytes)) ≡ Some (tokens created) → created ≡ drop (first_token (first ∷ bytes)).size (first ∷ bytes)
     → Some (record { value = kind; rest = tokens after_kind }) ≡ kind_in (tokens created) → IsLeft created after_kind
     → tokens rest ≡ past_gaps (tokens after_kind) → IsLeft after_kind rest
     → Stands (first ∷ bytes) rest
@@ -95,12 +95,12 @@ stands-from first bytes created after_kind rest kind create at kinds kind_left p
       gapless = ap past_gaps past ∙ past-past (tokens after_kind) ∙ sym past;
     }
 
-pub none-created : (created : List ℕ) → after (is_word (codes "create")) (tokens []) ≡ Some (tokens created) → ⊥
-none-created created e = cc (sym (ap (after (is_word (codes "create"))) tokens-nil) ∙ e)
+pub none-created : (created : List ℕ) → after_token (is_word (codes "create")) (tokens []) ≡ Some (tokens created) → ⊥
+none-created created e = cc (sym (ap (after_token (is_word (codes "create"))) tokens-nil) ∙ e)
 
 pub stands-after :
     (text created after_kind rest : List ℕ) (kind : Kind)
-    → Some (tokens created) ≡ after (is_word (codes "create")) (tokens text) → created ≡ drop (first_token text).size text
+    → Some (tokens created) ≡ after_token (is_word (codes "create")) (tokens text) → created ≡ drop (first_token text).size text
     → Some (record { value = kind; rest = tokens after_kind }) ≡ kind_in (tokens created) → IsLeft created after_kind
     → tokens rest ≡ past_gaps (tokens after_kind) → IsLeft after_kind rest
     → Stands text rest

@@ -5,9 +5,10 @@ use Rattle.std.proofs.lemmas.List.{take_all}
 use Rattle.grammar.specs.Language.{Begins, Refused}
 use Rattle.std.specs.Option.{option_and_then}
 use Rattle.object_forms.specs.declared.kind.Kind.{Kind}
-use Rattle.object_forms.specs.Head.{Found, HasHead, after, head, kind_in, name_at, making_after}
-use Rattle.object_texts.specs.Left.{name_place, place_in, place_of}
-use Rattle.object_forms.specs.Token.{Lexeme, Token, closing, comment_end, comment_lexeme, first_token, is_gap, is_quote, is_white, is_word, is_word_byte, past_gaps, quoted_lexeme, slash_lexeme, tokens}
+use Rattle.object_forms.specs.Head.{Found, HasHead, after_token, head, kind_in, name_at, making_after}
+use Rattle.object_texts.specs.Left.{name_place, place_in, token_reach}
+use Rattle.plain_data.specs.Byte.{is_white}
+use Rattle.object_forms.specs.Token.{Lexeme, Token, closing, comment_end, comment_lexeme, first_token, is_gap, is_quote, is_word, is_word_byte, past_gaps, quoted_lexeme, slash_lexeme, tokens}
 use Rattle.object_forms.specs.Token.Token.{comment, mark, quoted_name, string, unended, white, word}
 use Rattle.object_texts.proofs.Closers.{comment-tokens, creates, quote-tokens, space-breaks}
 use Rattle.sql_tokens.proofs.Cuts.{parted}
@@ -148,7 +149,7 @@ refused-whole text rest more n e stands none some comes =
 no_slash : (byte : ℕ) → is_quote byte ≡ true → (byte == 47) ≡ false
 no_slash byte quote = cond_same (byte == 47) (λ e. let same : byte ≡ 47 = eqb-true byte 47 e in cc (ap is_quote same))
 
-quote-refused : (text bytes : List ℕ) (byte n : ℕ) (size : Option ℕ) (name : Bool) → Stands text (byte ∷ bytes) → is_some (head text) ≡ false → is_word_byte byte ≡ false → is_quote byte ≡ true → closing byte bytes ≡ size → (byte == 96) ≡ name → Some n ≡ place_of byte (suc (length bytes)) (quoted_lexeme byte bytes size).token → RefusedBy text (byte ∷ bytes) n
+quote-refused : (text bytes : List ℕ) (byte n : ℕ) (size : Option ℕ) (name : Bool) → Stands text (byte ∷ bytes) → is_some (head text) ≡ false → is_word_byte byte ≡ false → is_quote byte ≡ true → closing byte bytes ≡ size → (byte == 96) ≡ name → Some n ≡ token_reach byte (suc (length bytes)) (quoted_lexeme byte bytes size).token → RefusedBy text (byte ∷ bytes) n
 quote-refused text bytes byte n None true stands none no_word quote size name place =
     let all : n ≡ suc (length bytes) = some-is n (suc (length bytes)) (place ∙ rw name refl) in
     let comes : is_some (name_at (past_gaps (tokens (byte ∷ bytes ++ (120 ∷ byte ∷ 32 ∷ codes "t"))))) ≡ true = ap (λ (all : List Token). is_some (name_at (past_gaps all))) (quote-tokens byte bytes (codes "t") no_word quote size) ∙ rw name refl in
@@ -161,38 +162,38 @@ quote-refused text bytes byte n (Some size) false stands none no_word quote foun
     let zero_is : n ≡ 0 = some-is n 0 (place ∙ rw name refl) in
     rw zero_is (refused-byte text bytes byte stands none (string-no_name byte no_word quote name))
 
-comment-refused : (text : List ℕ) (n : ℕ) (bytes : List ℕ) (size : Option ℕ) → comment_end bytes ≡ size → Stands text (47 ∷ 42 ∷ bytes) → is_some (head text) ≡ false → is_gap (comment_lexeme (42 ∷ bytes) size).token ≡ false → Some n ≡ place_of 47 (suc (suc (length bytes))) (comment_lexeme (42 ∷ bytes) size).token → RefusedBy text (47 ∷ 42 ∷ bytes) n
+comment-refused : (text : List ℕ) (n : ℕ) (bytes : List ℕ) (size : Option ℕ) → comment_end bytes ≡ size → Stands text (47 ∷ 42 ∷ bytes) → is_some (head text) ≡ false → is_gap (comment_lexeme (42 ∷ bytes) size).token ≡ false → Some n ≡ token_reach 47 (suc (suc (length bytes))) (comment_lexeme (42 ∷ bytes) size).token → RefusedBy text (47 ∷ 42 ∷ bytes) n
 comment-refused text n bytes None size stands none no_gap place =
     let all : n ≡ suc (suc (length bytes)) = some-is n (suc (suc (length bytes))) place in
     let comes : is_some (name_at (past_gaps (tokens (47 ∷ 42 ∷ bytes ++ (42 ∷ 47 ∷ 32 ∷ codes "t"))))) ≡ true = ap (λ (all : List Token). is_some (name_at (past_gaps all))) (comment-tokens bytes (codes "t") size) ∙ name-comes in
     refused-whole text (47 ∷ 42 ∷ bytes) (42 ∷ 47 ∷ 32 ∷ codes "t") n all stands none (omega arith) comes
 comment-refused text n bytes (Some size) found stands none no_gap place = absurd (cc)
 
-next-refused : (text : List ℕ) (n next : ℕ) (bytes : List ℕ) (star : Bool) → (next == 42) ≡ star → Stands text (47 ∷ next ∷ bytes) → is_some (head text) ≡ false → is_gap (slash_lexeme (next ∷ bytes)).token ≡ false → Some n ≡ place_of 47 (suc (suc (length bytes))) (slash_lexeme (next ∷ bytes)).token → RefusedBy text (47 ∷ next ∷ bytes) n
+next-refused : (text : List ℕ) (n next : ℕ) (bytes : List ℕ) (star : Bool) → (next == 42) ≡ star → Stands text (47 ∷ next ∷ bytes) → is_some (head text) ≡ false → is_gap (slash_lexeme (next ∷ bytes)).token ≡ false → Some n ≡ token_reach 47 (suc (suc (length bytes))) (slash_lexeme (next ∷ bytes)).token → RefusedBy text (47 ∷ next ∷ bytes) n
 next-refused text n next bytes true star =
     let same : next ≡ 42 = eqb-true next 42 star in
-    let P : ℕ → Type 0 = λ next. Stands text (47 ∷ next ∷ bytes) → is_some (head text) ≡ false → is_gap (slash_lexeme (next ∷ bytes)).token ≡ false → Some n ≡ place_of 47 (suc (suc (length bytes))) (slash_lexeme (next ∷ bytes)).token → RefusedBy text (47 ∷ next ∷ bytes) n in
+    let P : ℕ → Type 0 = λ next. Stands text (47 ∷ next ∷ bytes) → is_some (head text) ≡ false → is_gap (slash_lexeme (next ∷ bytes)).token ≡ false → Some n ≡ token_reach 47 (suc (suc (length bytes))) (slash_lexeme (next ∷ bytes)).token → RefusedBy text (47 ∷ next ∷ bytes) n in
     subst P (sym same) (comment-refused text n bytes (comment_end bytes) refl)
 next-refused text n next bytes false star = λ stands none no_gap place.
     let lexeme : slash_lexeme (next ∷ bytes) ≡ record { size = 1; token = mark 47 } = rw star refl in
-    let one : n ≡ 1 = some-is n 1 (place ∙ ap (λ (found : Lexeme). place_of 47 (suc (suc (length bytes))) found.token) lexeme) in
+    let one : n ≡ 1 = some-is n 1 (place ∙ ap (λ (found : Lexeme). token_reach 47 (suc (suc (length bytes))) found.token) lexeme) in
     rw one (refused-slash text (next ∷ bytes) stands none (λ n some fits more. subst NoName (sym (two-more n 47 next bytes more some)) (slash-no_name next star (take (n - 2) bytes ++ more))))
 
-slash-refused : (text : List ℕ) (n : ℕ) (bytes : List ℕ) → Stands text (47 ∷ bytes) → is_some (head text) ≡ false → is_gap (slash_lexeme bytes).token ≡ false → Some n ≡ place_of 47 (suc (length bytes)) (slash_lexeme bytes).token → RefusedBy text (47 ∷ bytes) n
+slash-refused : (text : List ℕ) (n : ℕ) (bytes : List ℕ) → Stands text (47 ∷ bytes) → is_some (head text) ≡ false → is_gap (slash_lexeme bytes).token ≡ false → Some n ≡ token_reach 47 (suc (length bytes)) (slash_lexeme bytes).token → RefusedBy text (47 ∷ bytes) n
 slash-refused text n [] stands none no_gap place =
     let one : n ≡ 1 = some-is n 1 place in
     rw one (refused-slash text [] stands none (λ n some fits more. absurd (omega arith)))
 slash-refused text n (next ∷ bytes) stands none no_gap place = next-refused text n next bytes (next == 42) refl stands none no_gap place
 
-byte-refused : (text : List ℕ) (byte n : ℕ) (bytes : List ℕ) → Stands text (byte ∷ bytes) → is_some (head text) ≡ false → is_gap (first_token (byte ∷ bytes)).token ≡ false → Some n ≡ place_of byte (suc (length bytes)) (first_token (byte ∷ bytes)).token → RefusedBy text (byte ∷ bytes) n
+byte-refused : (text : List ℕ) (byte n : ℕ) (bytes : List ℕ) → Stands text (byte ∷ bytes) → is_some (head text) ≡ false → is_gap (first_token (byte ∷ bytes)).token ≡ false → Some n ≡ token_reach byte (suc (length bytes)) (first_token (byte ∷ bytes)).token → RefusedBy text (byte ∷ bytes) n
 byte-refused text byte n bytes stands none =
-    first_token_by (λ found. is_gap found.token ≡ false → Some n ≡ place_of byte (suc (length bytes)) found.token → RefusedBy text (byte ∷ bytes) n) byte bytes
+    first_token_by (λ found. is_gap found.token ≡ false → Some n ≡ token_reach byte (suc (length bytes)) found.token → RefusedBy text (byte ∷ bytes) n) byte bytes
     (λ a no_gap place. absurd (none-some n place))
     (λ a b no_gap place. quote-refused text bytes byte n (closing byte bytes) (byte == 96) stands none a b refl refl place)
     (λ a b c no_gap place. absurd (cc))
     (λ a b c d.
     let same : byte ≡ 47 = eqb-true byte 47 d in
-    let P : ℕ → Type 0 = λ byte. Stands text (byte ∷ bytes) → is_gap (slash_lexeme bytes).token ≡ false → Some n ≡ place_of byte (suc (length bytes)) (slash_lexeme bytes).token → RefusedBy text (byte ∷ bytes) n in
+    let P : ℕ → Type 0 = λ byte. Stands text (byte ∷ bytes) → is_gap (slash_lexeme bytes).token ≡ false → Some n ≡ token_reach byte (suc (length bytes)) (slash_lexeme bytes).token → RefusedBy text (byte ∷ bytes) n in
     subst P (sym same) (λ stands no_gap place. slash-refused text n bytes stands none no_gap place) stands)
     (λ a b c d no_gap place. let zero_is : n ≡ 0 = some-is n 0 (place ∙ rw d refl) in rw zero_is (refused-byte text bytes byte stands none (mark-no_name byte a b c d)))
 
@@ -231,7 +232,7 @@ pub stands-named : (text rest : List ℕ) → Stands text rest → None ≡ name
 stands-named text rest stands place = has-head text (head-of stands ∙ place-some (slice_index rest 0) (length rest) (tokens rest) place)
 
 -- where no kind comes after CREATE, the text goes along to its end
-created-first : (first : ℕ) (bytes created : List ℕ) → Some (tokens created) ≡ after (is_word (codes "create")) (tokens (first ∷ bytes)) → created ≡ drop (first_token (first ∷ bytes)).size (first ∷ bytes) → None ≡ kind_in (tokens created) → Refused HasHead (first ∷ bytes) (length (first ∷ bytes))
+created-first : (first : ℕ) (bytes created : List ℕ) → Some (tokens created) ≡ after_token (is_word (codes "create")) (tokens (first ∷ bytes)) → created ≡ drop (first_token (first ∷ bytes)).size (first ∷ bytes) → None ≡ kind_in (tokens created) → Refused HasHead (first ∷ bytes) (length (first ∷ bytes))
 created-first first bytes created create at none =
     let text = first ∷ bytes in
     let word = is_created first bytes created (sym create) in
@@ -243,6 +244,6 @@ created-first first bytes created create at none =
     let begins : is_some (head (take (length text) text ++ goes_on.more)) ≡ true = ap (λ (bytes : List ℕ). is_some (head bytes)) whole ∙ reaches-head (tokens (text ++ goes_on.more)) (tokens (codes " t")) goes_on.reaches ∙ name-comes in
     refused-at text (length text) (omega arith) no_head (begins-with (take (length text) text) goes_on.more begins) (λ n above within more. absurd (omega arith))
 
-pub created-refused : (text created : List ℕ) → Some (tokens created) ≡ after (is_word (codes "create")) (tokens text) → created ≡ drop (first_token text).size text → None ≡ kind_in (tokens created) → Refused HasHead text (length text)
+pub created-refused : (text created : List ℕ) → Some (tokens created) ≡ after_token (is_word (codes "create")) (tokens text) → created ≡ drop (first_token text).size text → None ≡ kind_in (tokens created) → Refused HasHead text (length text)
 created-refused [] created create at none = absurd (none-created created (sym create))
 created-refused (first ∷ bytes) created create at none = created-first first bytes created create at none

@@ -3,7 +3,8 @@ use Rattle.std.proofs.Common.{◌≡◌, ◌⊎◌, ℕ, suc, ◌+◌, ◌-◌, 
 use Rattle.std.specs.List.{prefix_len}
 use Rattle.std.proofs.lemmas.List.{take-append-le}
 use Rattle.std.proofs.lemmas.List.Sums.{prefix_len-le-length}
-use Rattle.object_forms.specs.Token.{Lexeme, Token, closing, comment_end, comment_lexeme, ends_comment, first_token, is_quote, is_white, is_word_byte, more, quoted_lexeme, slash_lexeme, word_lexeme}
+use Rattle.plain_data.specs.Byte.{is_white}
+use Rattle.object_forms.specs.Token.{Lexeme, Token, closing, comment_end, comment_lexeme, ends_comment, first_token, is_quote, is_word_byte, more, quoted_lexeme, slash_lexeme, word_lexeme}
 use Rattle.object_forms.specs.Token.Token.{comment, mark, quoted_name, string, unended, white, word}
 use Rattle.sql_tokens.proofs.Cuts.{cond_both}
 use Rattle.sql_tokens.proofs.Tokens.{EndsWithin, closing-within}

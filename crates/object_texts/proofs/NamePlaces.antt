@@ -3,7 +3,7 @@ use Rattle.std.proofs.Common.{◌≡◌, ℕ, Bool, true, false, cond, List, [],
 use Rattle.std.specs.Option.{option_and_then, option_or}
 use Rattle.plain_data.proofs.Options.{same_some}
 use Rattle.object_forms.specs.declared.kind.Kind.{Kind}
-use Rattle.object_forms.specs.Head.{Found, Making, Path, after, after_exists, after_word, dotted_name, head_in, kind_in, making_after, name_in, name_of, path_in, with_schema}
+use Rattle.object_forms.specs.Head.{Found, Making, Path, after_token, after_exists, after_word, dotted_name, head_in, kind_in, making_after, name_in, name_of, path_in, with_schema}
 use Rattle.object_forms.specs.Place.{renamed}
 use Rattle.object_forms.specs.Token.{Token, is_mark, is_word, past_gaps}
 use Rattle.object_forms.specs.Token.Token.{comment, mark, quoted_name, string, unended, white, word}
@@ -11,7 +11,7 @@ use Rattle.object_texts.proofs.Fronts.{LastStops}
 use Rattle.object_texts.proofs.NameSteps.{after_gaps, both, exists-step, first-step, joined-step, kind-step, last-append, mark-solid, mark-stops, name-again, name-solid, name-step, past-step, with_kind, word-stops}
 
 -- where a dot stands no word does
-dot-not_word : (lower : List ℕ) (all rest : List Token) → after (is_mark 46) all ≡ Some rest → after (is_word lower) all ≡ None
+dot-not_word : (lower : List ℕ) (all rest : List Token) → after_token (is_mark 46) all ≡ Some rest → after_token (is_word lower) all ≡ None
 dot-not_word lower [] rest e = refl
 dot-not_word lower (word bytes ∷ all) rest e = absurd (cc)
 dot-not_word lower (quoted_name bytes ∷ all) rest e = refl
@@ -31,9 +31,9 @@ none-either true f x e = e
 none-either false f x e = refl
 
 -- the words IF NOT EXISTS don't stand where IF isn't followed by NOT
-no_exists : (all left : List Token) → past_gaps all ≡ left → option_and_then (after_word (codes "not")) (after (is_word (codes "if")) left) ≡ None → after_exists all ≡ None
+no_exists : (all left : List Token) → past_gaps all ≡ left → option_and_then (after_word (codes "not")) (after_token (is_word (codes "if")) left) ≡ None → after_exists all ≡ None
 no_exists all left e none =
-    ap (λ (left : List Token). option_and_then (after_word (codes "exists")) (option_and_then (after_word (codes "not")) (after (is_word (codes "if")) left))) e
+    ap (λ (left : List Token). option_and_then (after_word (codes "exists")) (option_and_then (after_word (codes "not")) (after_token (is_word (codes "if")) left))) e
     ∙ ap (option_and_then (after_word (codes "exists"))) none
 
 -- the name of a path after a front, and the path where another name stands there
@@ -169,15 +169,15 @@ making-named : (kind : Kind) (all : List Token) (found : Found Making) → makin
 making-named kind all found e = first-named (option_and_then path_in (after_exists all)) kind all found refl e
 
 abbrev created_kind : List Token → Option (Found Kind)
-created_kind all = option_and_then kind_in (after (is_word (codes "create")) all)
+created_kind all = option_and_then kind_in (after_token (is_word (codes "create")) all)
 
 -- a head's name, and the head with another one
 pub head-named : (all : List Token) (found : Found Making) → head_in all ≡ Some found → Named head_in all found
 head-named all found e =
     let kinds = both making_after (created_kind all) found e in
     let kind = kinds.0 in
-    let creates = both kind_in (after (is_word (codes "create")) all) kind kinds.1 in
-    let words = joined-step (after (is_word (codes "create"))) kind_in (with_kind kind.value) all creates.0 kind.rest
+    let creates = both kind_in (after_token (is_word (codes "create")) all) kind kinds.1 in
+    let words = joined-step (after_token (is_word (codes "create"))) kind_in (with_kind kind.value) all creates.0 kind.rest
     (first-step (is_word (codes "create")) (word-stops (codes "create")) all creates.0 creates.1)
     (kind-step creates.0 kind.rest kind.value creates.2) in
     let name = making-named kind.value kind.rest found kinds.2 in

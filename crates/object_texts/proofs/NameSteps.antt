@@ -3,7 +3,7 @@ use Rattle.std.proofs.Common.{◌≡◌, ℕ, Bool, true, false, cond, List, [],
 use Rattle.std.specs.Option.{option_and_then}
 use Rattle.plain_data.proofs.Options.{same_some}
 use Rattle.object_forms.specs.declared.kind.Kind.{Kind}
-use Rattle.object_forms.specs.Head.{Found, after, after_exists, after_word, kind_in, kind_of, name_at, name_in, name_of}
+use Rattle.object_forms.specs.Head.{Found, after_token, after_exists, after_word, kind_in, kind_of, name_at, name_in, name_of}
 use Rattle.object_forms.specs.Token.{Token, is_gap, is_mark, is_word, past_gaps}
 use Rattle.object_forms.specs.Token.Token.{comment, mark, quoted_name, string, unended, white, word}
 use Rattle.object_texts.proofs.Fronts.{LastStops}
@@ -107,7 +107,7 @@ gaps-step [] = record { front = []; splits = refl; goes_on = λ others. refl; st
 gaps-step (token ∷ all) = gap-step (is_gap token) token all refl (gaps-step all)
 
 -- one token that passes a test
-one-step : (test : Token → Bool) (passes : Bool) (token : Token) (all rest : List Token) → test token ≡ passes → (test token ≡ true → Stops 96 token) → cond passes (Some all) None ≡ Some rest → Step (after test) (λ others. Some others) (token ∷ all) rest
+one-step : (test : Token → Bool) (passes : Bool) (token : Token) (all rest : List Token) → test token ≡ passes → (test token ≡ true → Stops 96 token) → cond passes (Some all) None ≡ Some rest → Step (after_token test) (λ others. Some others) (token ∷ all) rest
 one-step test true token all rest e stops same = record {
   front = token ∷ [];
   splits = ap (λ (others : List Token). token ∷ others) (same_some same);
@@ -116,24 +116,24 @@ one-step test true token all rest e stops same = record {
 }
 one-step test false token all rest e stops same = absurd (cc)
 
-pub first-step : (test : Token → Bool) → ((token : Token) → test token ≡ true → Stops 96 token) → (all rest : List Token) → after test all ≡ Some rest → Step (after test) (λ others. Some others) all rest
+pub first-step : (test : Token → Bool) → ((token : Token) → test token ≡ true → Stops 96 token) → (all rest : List Token) → after_token test all ≡ Some rest → Step (after_token test) (λ others. Some others) all rest
 first-step test stops [] rest e = absurd (cc)
 first-step test stops (token ∷ all) rest e = one-step test (test token) token all rest refl (stops token) e
 
 -- the same past white space and comments
 abbrev pub after_gaps : (Token → Bool) → List Token → Option (List Token)
-after_gaps test all = after test (past_gaps all)
+after_gaps test all = after_token test (past_gaps all)
 
 past-one : (test : Token → Bool) (passes : Bool) (token : Token) (all left rest : List Token) → test token ≡ passes → (test token ≡ true → Stops 96 token) → (test token ≡ true → is_gap token ≡ false) → Step past_gaps past_gaps all (token ∷ left) → cond passes (Some left) None ≡ Some rest → Step (after_gaps test) (λ others. Some others) all rest
 past-one test true token all left rest e stops solid gaps same = record {
   front = gaps.front ++ (token ∷ []);
   splits = gaps.splits ∙ ap (λ (others : List Token). gaps.front ++ (token ∷ others)) (same_some same) ∙ sym (append_assoc gaps.front (token ∷ []) rest);
-  goes_on = λ others. ap (after_gaps test) (append_assoc gaps.front (token ∷ []) others) ∙ ap (after test) (gaps.goes_on (token ∷ others)) ∙ rw (solid e, e) refl;
+  goes_on = λ others. ap (after_gaps test) (append_assoc gaps.front (token ∷ []) others) ∙ ap (after_token test) (gaps.goes_on (token ∷ others)) ∙ rw (solid e, e) refl;
   stops = last-one 96 gaps.front token (stops e);
 }
 past-one test false token all left rest e stops solid gaps same = absurd (cc)
 
-past-left : (test : Token → Bool) → ((token : Token) → test token ≡ true → Stops 96 token) → ((token : Token) → test token ≡ true → is_gap token ≡ false) → (all left rest : List Token) → Step past_gaps past_gaps all left → after test left ≡ Some rest → Step (after_gaps test) (λ others. Some others) all rest
+past-left : (test : Token → Bool) → ((token : Token) → test token ≡ true → Stops 96 token) → ((token : Token) → test token ≡ true → is_gap token ≡ false) → (all left rest : List Token) → Step past_gaps past_gaps all left → after_token test left ≡ Some rest → Step (after_gaps test) (λ others. Some others) all rest
 past-left test stops solid all [] rest gaps e = absurd (cc)
 past-left test stops solid all (token ∷ left) rest gaps e = past-one test (test token) token all left rest refl (stops token) (solid token) gaps e
 

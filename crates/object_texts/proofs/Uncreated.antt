@@ -11,7 +11,7 @@ use Rattle.std.proofs.lemmas.Slice.Eq.{bytes_eq-Decides}
 use Rattle.std.proofs.lemmas.List.Sums.{prefix_len-le-length}
 use Rattle.grammar.specs.Language.{Refused}
 use Rattle.std.specs.Option.{option_and_then}
-use Rattle.object_forms.specs.Head.{HasHead, after, head, head_in, kind_in, making_after}
+use Rattle.object_forms.specs.Head.{HasHead, after_token, head, head_in, kind_in, making_after}
 use Rattle.object_texts.specs.Left.{agreement}
 use Rattle.object_forms.specs.Token.{Lexeme, Token, closing, comment_end, comment_lexeme, first_token, is_word, is_word_byte, quoted_lexeme, slash_lexeme, tokens, word_lexeme}
 use Rattle.object_forms.specs.Token.Token.{word}
@@ -158,8 +158,8 @@ head-is_create [] e = absurd (cc (ap (λ (all : List Token). is_some (head_in al
 head-is_create (first ∷ bytes) e =
     let text = first ∷ bytes in
     let found = first_token text in
-    let after_it = after-there (after (is_word create) (tokens text)) e in
-    let is_create : is_word create found.token ≡ true = created-by (is_word create found.token) (tokens (drop found.size text)) (sym (ap (λ (all : List Token). is_some (after (is_word create) all)) (tokens-cons first bytes)) ∙ after_it) in
+    let after_it = after-there (after_token (is_word create) (tokens text)) e in
+    let is_create : is_word create found.token ≡ true = created-by (is_word create found.token) (tokens (drop found.size text)) (sym (ap (λ (all : List Token). is_some (after_token (is_word create) all)) (tokens-cons first bytes)) ∙ after_it) in
     let created = created-first first bytes is_create in
     record { size = created.size; letters = created.letters; word = is_create }
 
@@ -168,11 +168,11 @@ created-none true all e f = cc
 created-none false all e f = cc
 
 -- a text without the word in front has no such token
-first-not_create : (text : List ℕ) → None ≡ after (is_word create) (tokens text) → is_word create (first_token text).token ≡ true → ⊥
+first-not_create : (text : List ℕ) → None ≡ after_token (is_word create) (tokens text) → is_word create (first_token text).token ≡ true → ⊥
 first-not_create [] e f = cc
-first-not_create (first ∷ bytes) e f = let found = first_token (first ∷ bytes) in created-none (is_word create found.token) (tokens (drop found.size (first ∷ bytes))) (e ∙ ap (after (is_word create)) (tokens-cons first bytes)) f
+first-not_create (first ∷ bytes) e f = let found = first_token (first ∷ bytes) in created-none (is_word create found.token) (tokens (drop found.size (first ∷ bytes))) (e ∙ ap (after_token (is_word create)) (tokens-cons first bytes)) f
 
-uncreated-head : (text : List ℕ) → None ≡ after (is_word create) (tokens text) → is_some (head text) ≡ false
+uncreated-head : (text : List ℕ) → None ≡ after_token (is_word create) (tokens text) → is_some (head text) ≡ false
 uncreated-head text e = ap (λ (created : Option (List Token)). is_some (option_and_then making_after (option_and_then kind_in created))) (sym e)
 
 take-map : (n : ℕ) (bytes : List ℕ) → map to_ascii_lowercase (take n bytes) ≡ take n (map to_ascii_lowercase bytes)
@@ -181,7 +181,7 @@ take-map (suc n) [] = refl
 take-map (suc n) (byte ∷ bytes) = ap (λ (left : List ℕ). to_ascii_lowercase byte ∷ left) (take-map n bytes)
 
 -- no text that goes on after where it agrees with the word has it in front
-never-create : (text more : List ℕ) (n : ℕ) → None ≡ after (is_word create) (tokens text) → agreement text create < n → n ≤ length text → IsCreate (take n text ++ more) → ⊥
+never-create : (text more : List ℕ) (n : ℕ) → None ≡ after_token (is_word create) (tokens text) → agreement text create < n → n ≤ length text → IsCreate (take n text ++ more) → ⊥
 never-create text more n none above within is_create =
     let front = take n text in
     let other = front ++ more in
@@ -205,7 +205,7 @@ agreement-le [] lower = omega arith
 agreement-le (byte ∷ text) [] = omega arith
 agreement-le (byte ∷ text) (letter ∷ lower) = let P : ℕ → Type 0 = λ n. n ≤ suc (length text) in cond_by P (to_ascii_lowercase byte == letter) _ _ (λ e. let later = agreement-le text lower in omega arith) (λ e. omega arith)
 
-pub uncreated-refused : (text : List ℕ) → None ≡ after (is_word create) (tokens text) → Refused HasHead text (agreement text create)
+pub uncreated-refused : (text : List ℕ) → None ≡ after_token (is_word create) (tokens text) → Refused HasHead text (agreement text create)
 uncreated-refused text none =
     let place = agreement text create in
     let rest = drop place create in

@@ -25,7 +25,11 @@ path_of path = record { schema = option_copied path.schema; name = path.name.now
 
 -- what the head that was read makes
 abbrev pub making_of : read_head.Head → Making
-making_of head = record { kind = head.kind; path = record { schema = option_copied head.schema; name = head.name.now } }
+making_of head =
+    record {
+      kind = head.kind;
+      path = record { schema = option_copied head.schema; name = head.name.now };
+    }
 
 -- a table's name, and the schema that was named with it
 abbrev pub table_path : (Option (Bor (List ℕ)) × Bor (List ℕ)) → Path
@@ -78,7 +82,8 @@ spelled_name spelled = option_map (λ name. name_value name.now) spelled
 
 -- the type word of these letters, and what stands after it
 abbrev pub type_of : List ℕ → List ℕ → Found (List ℕ)
-type_of letters text = record { value = type_named (map to_ascii_lowercase letters); rest = tokens text }
+type_of letters text =
+    record { value = type_named (map to_ascii_lowercase letters); rest = tokens text }
 
 -- the item of the column that was read
 abbrev pub item_of : read_column.Declared → ColumnItem
@@ -122,7 +127,8 @@ IsText bytes found = SomeIf (is_utf8 bytes) (λ text. text ≡ bytes) found
 -- the column of an item, where its name is UTF-8, and none where it isn't
 abbrev pub IsColumn : ColumnItem → Option Column → Type 0
 IsColumn item found =
-    SomeIf (names_are (columns_of (Some item))) (λ column. column ∷ [] ≡ columns_of (Some item)) found
+    SomeIf (names_are (columns_of (Some item)))
+    (λ column. column ∷ [] ≡ columns_of (Some item)) found
 
 -- the columns that a text of items has; none only where a name among them isn't UTF-8
 abbrev pub AreColumns : List ℕ → Option (List Column) → Type 0
@@ -130,8 +136,8 @@ AreColumns items found =
     MatchOption found (names_are (columns_in items) ≡ false) (λ columns. columns ≡ columns_in items)
 
 -- the shape of a table whose items, engine and rest were found, with its columns, its key and those of PRIMARY KEY
-abbrev pub table_of : read_table.Table → TableShape
-table_of table = record {
+abbrev pub shape_of_table : read_table.Table → TableShape
+shape_of_table table = record {
   columns = column_items table.items.now;
   key = key_of (parts 0 (tokens table.items.now)) (columns_in table.items.now);
   key_columns = key_columns_of (parts 0 (tokens table.items.now)) (columns_in table.items.now);

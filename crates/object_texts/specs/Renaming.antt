@@ -16,7 +16,7 @@ abbrev pub after_place : List ℕ → Span → List ℕ
 after_place text span = drop (span.before + span.size) text
 
 -- bytes that spell one token, which is that name
-pub record Spells (bytes name : List ℕ) : Type 0 where
+pub record SpellsName (bytes name : List ℕ) : Type 0 where
   pub token : Token
   pub tokens : tokens bytes ≡ token ∷ []
   pub is_name : name_of token ≡ Some name
@@ -24,7 +24,7 @@ pub record Spells (bytes name : List ℕ) : Type 0 where
 -- the text is what stands before the name, the name as it is spelled, and what stands after it
 pub record NameStands (text name : List ℕ) (span : Span) : Type 0 where
   pub whole : take span.before text ++ in_place text span ++ after_place text span ≡ text
-  pub spells : Spells (in_place text span) name
+  pub spells : SpellsName (in_place text span) name
 
 -- in the place of its head's name a text has the name that the head takes
 abbrev pub NamesStand : Type 0
@@ -48,5 +48,7 @@ QuotedNamesEnd =
 abbrev pub NamesAreReplaced : Type 0
 NamesAreReplaced =
     (text name : List ℕ) (found : Making) (span : Span)
-    → making text ≡ Some found → name_span text ≡ Some span → begins_quoted (after_place text span) ≡ false
-    → making (replaced text span (quoted_name name)) ≡ Some (renamed found (flat_map name_byte name))
+    → making text ≡ Some found → name_span text ≡ Some span →
+    begins_quoted (after_place text span) ≡ false
+    → making (replaced text span (quoted_name name))
+    ≡ Some (renamed found (flat_map name_byte name))

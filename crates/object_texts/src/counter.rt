@@ -1,7 +1,8 @@
 //! The counter of a table: the column with AUTO_INCREMENT, and the number that comes next.
 ghost use Rattle.std.specs.Prelude.{◌≡◌, ◌<◌, ◌+◌, ◌-◌, ◌*◌, ◌^◌, length, min, position, option_map, IfSome};
 ghost use Rattle.std.specs.List.{fold, take_while};
-ghost use Rattle.object_forms.specs.Shape.{column_of, counter, counter_at, counter_found, counter_in, is_auto, is_digit};
+ghost use Rattle.plain_data.specs.Byte.{is_digit};
+ghost use Rattle.object_forms.specs.Shape.{column_of, counter, counter_at, counter_found, counter_in, is_auto};
 ghost use Rattle.object_texts.specs.Reading.{columns_in, table_counter, is_auto_column, column_items};
 ghost use Rattle.object_forms.specs.Token.{tokens};
 

@@ -2,7 +2,8 @@
 ghost use Rattle.std.specs.Prelude.{◌≡◌, ◌<◌, ◌^◌, length, position, option_and_then, IfOk, IfSome};
 ghost use Rattle.std.specs.List.{list_all};
 ghost use Rattle.object_texts.specs.Reading.{parts_in, spelled_name};
-ghost use Rattle.object_forms.specs.Shape.{after_length, after_primary, bare_name, column_index, is_digit, is_ended, is_integer, is_key, is_number, key_columns_of, key_of, key_parts, only_name, part_index, part_indices, part_name, parts, past_direction, primary};
+ghost use Rattle.plain_data.specs.Byte.{is_digit};
+ghost use Rattle.object_forms.specs.Shape.{after_length, after_primary, bare_name, column_index, is_ended, is_integer, is_key, is_number_token, key_columns_of, key_of, key_parts, only_name, part_index, part_indices, part_name, parts, past_direction, primary};
 ghost use Rattle.sql_tokens.specs.Reading.{tokens_of, token_of};
 ghost use Rattle.object_forms.specs.Token.{past_gaps, tokens};
 
@@ -65,7 +66,7 @@ fn are_digits(bytes: &[u8]) -> bool
 }
 
 fn is_number(token: Token<'_>) -> bool
-    ensures { result ≡ is_number (token_of token.entry) }
+    ensures { result ≡ is_number_token (token_of token.entry) }
 {
     match token {
         Token::Word(bytes) => are_digits(bytes),

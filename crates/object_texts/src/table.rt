@@ -4,7 +4,7 @@ ghost use Rattle.std.specs.Str.{is_utf8};
 ghost use Rattle.sql_tokens.specs.Reading.{tokens_of};
 ghost use Rattle.object_forms.specs.Head.{head};
 ghost use Rattle.object_forms.specs.Shape.{columns_are, engine_at, engine_in, items_after, option_at, shape, name_value, word_at};
-ghost use Rattle.object_texts.specs.Reading.{enclosed_of, item_columns, columns_in, names_are, table_of};
+ghost use Rattle.object_texts.specs.Reading.{enclosed_of, item_columns, columns_in, names_are, shape_of_table};
 ghost use Rattle.object_forms.specs.Token.{tokens};
 
 use crate::column::column_of;
@@ -145,7 +145,7 @@ fn items_in(text: &[u8]) -> Option<(&[u8], &[u8])>
 
 // The table that a text with a shape makes.
 pub(crate) fn table_in(text: &[u8]) -> Option<Table<'_>>
-    ensures shape { option_map table_of result ≡ shape text.now }
+    ensures shape { option_map shape_of_table result ≡ shape text.now }
     ensures few { IfSome result (λ table. length (columns_in table.items.now) ≤ 65535) }
 {
     let (items, after) = items_in(text)?;

@@ -1,2 +1,4 @@
 pub mod Buffer
+pub mod Byte
+pub mod Cell
 pub mod Lending

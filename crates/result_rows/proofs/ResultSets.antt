@@ -3,7 +3,8 @@ use Rattle.std.proofs.Common.{◌≡◌, ℕ, zero, suc, ◌+◌, ◌-◌, ◌==
 use Rattle.std.proofs.lemmas.Bool.{ne_eqb}
 use Rattle.std.proofs.lemmas.Bool.Decides.{nat_tests}
 use Rattle.std.proofs.lemmas.Grind.{replicate_next}
-use Rattle.wire_forms.specs.Row.{Cell, cells_of}
+use Rattle.plain_data.specs.Cell.{Cell}
+use Rattle.wire_forms.specs.Row.{cells_of}
 use Rattle.wire_forms.specs.Definition.{is_definition, column_count}
 use Rattle.wire_forms.specs.Packet.{full_size}
 use Rattle.wire_forms.specs.Reply.{are_ok_fields, is_ok_packet, is_eof_packet, reply_of, refusal_of}

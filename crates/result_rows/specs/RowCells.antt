@@ -1,6 +1,7 @@
 -- A row as a caller sees it.
 use Rattle.std.specs.Prelude.{List}
-use Rattle.wire_forms.specs.Row.{Cell, cells_or_none}
+use Rattle.plain_data.specs.Cell.{Cell}
+use Rattle.wire_forms.specs.Row.{cells_or_none}
 use Rattle.result_rows.specs.declared.row.Row.{Row}
 
 -- the cells of a row

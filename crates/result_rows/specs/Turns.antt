@@ -16,11 +16,13 @@ unspelled [] = Garbled
 unspelled (byte ∷ bytes) = if byte == 251 then LocalInfile else Garbled
 
 -- the answer to a reply's first message, and what is pending after it, where result sets end so
-abbrev pub IsReply : Ends → List ℕ → Option Reply → Result Reply ReplyFault → Reading → Type 0
-IsReply ends payload None result new = (result ≡ Err (unspelled payload)) × (new ≡ idle ends)
-IsReply ends payload (Some Done) result new = (result ≡ Ok Done) × (new ≡ idle ends)
-IsReply ends payload (Some (Refused refusal)) result new = (result ≡ Ok (Refused refusal)) × (new ≡ idle ends)
-IsReply ends payload (Some (Columns count)) result new = (result ≡ Ok (Columns count)) × (new ≡ columns_counted ends count)
+abbrev pub AnswersFirst : Ends → List ℕ → Option Reply → Result Reply ReplyFault → Reading → Type 0
+AnswersFirst ends payload None result new = (result ≡ Err (unspelled payload)) × (new ≡ idle ends)
+AnswersFirst ends payload (Some Done) result new = (result ≡ Ok Done) × (new ≡ idle ends)
+AnswersFirst ends payload (Some (Refused refusal)) result new =
+    (result ≡ Ok (Refused refusal)) × (new ≡ idle ends)
+AnswersFirst ends payload (Some (Columns count)) result new =
+    (result ≡ Ok (Columns count)) × (new ≡ columns_counted ends count)
 
 -- the answer to a further message, which began at this place of the stream
 abbrev pub IsTurn : ℕ → Result Turn ReplyFault → Further → Type 0

@@ -4,7 +4,7 @@ ghost use Rattle.wire_forms.specs.Reply.{reply_of};
 ghost use Rattle.wire_forms.specs.Reading.{idle, columns_counted, awaited_count, is_before_rows, end_limit, is_in_ends_place, is_end_packet, row_of, further_of, reading_after};
 ghost use Rattle.wire_forms.specs.Row.{cells_of};
 ghost use Rattle.result_rows.specs.RowCells.{row_cells};
-ghost use Rattle.result_rows.specs.Turns.{IsReply, IsTurn};
+ghost use Rattle.result_rows.specs.Turns.{AnswersFirst, IsTurn};
 
 use crate::fields::{
     FULL_SIZE, column_count, is_definition, is_ending_ok, is_eof_packet, is_ok_packet,
@@ -78,7 +78,7 @@ impl RowReader {
     /// begin so. After `Columns` the messages of a result set are pending, after any other answer
     /// nothing is. Takes no memory.
     pub fn first(&mut self, payload: &[u8]) -> Result<Reply, ReplyFault>
-        ensures { IsReply self.old.ends payload.now (reply_of payload.now) result self.new }
+        ensures { AnswersFirst self.old.ends payload.now (reply_of payload.now) result self.new }
     {
         self.columns = 0;
         self.awaited = 0;

@@ -1,6 +1,6 @@
 //! Rows, and their cells one after the other.
 ghost use Rattle.std.specs.Prelude.{◌≡◌, ◌<◌, length, is_some, IsSome, slice_index_or, MatchOption, Some, None, option_map, option_copied};
-ghost use Rattle.wire_forms.specs.Row.{cell_of, cells_of};
+ghost use Rattle.wire_forms.specs.Row.{cell_in_front, cells_of};
 
 use crate::fields::string_of;
 use std::marker::Model;
@@ -97,7 +97,8 @@ pub struct Cells<'a> {
 
 impl<'a> Model for Cells<'a> {
     ghost use Rattle.std.specs.Prelude.{List, IsSome};
-    ghost use Rattle.wire_forms.specs.Row.{Cell, cells_of, cells_or_none};
+    ghost use Rattle.plain_data.specs.Cell.{Cell};
+    ghost use Rattle.wire_forms.specs.Row.{cells_of, cells_or_none};
 
     ghost Value = { List Cell };
 
@@ -133,7 +134,7 @@ impl<'a> Iterator for Cells<'a> {
 #[inline]
 fn cell_of(bytes: &[u8]) -> Option<(Option<&[u8]>, &[u8])>
     ensures { option_map (λ parts. (option_copied parts.0, parts.1.now)) result ≡
-        cell_of bytes.now }
+        cell_in_front bytes.now }
 {
     if let [0xfb, rest @ ..] = bytes {
         return Some((None, rest));

@@ -17,7 +17,8 @@ use Rattle.server_data.specs.declared.data.Position.{Position}
 
 -- the object has this kind, schema and name
 abbrev pub is_object : Kind → List ℕ → List ℕ → Object → Bool
-is_object kind schema name object = kind_eq object.kind kind && (bytes_eq object.schema schema && bytes_eq object.name name)
+is_object kind schema name object =
+    kind_eq object.kind kind && (bytes_eq object.schema schema && bytes_eq object.name name)
 
 -- an object of this kind, schema and name is there
 unfoldable pub has_object : Database → Kind → List ℕ → List ℕ → Bool
@@ -32,9 +33,9 @@ abbrev pub is_need : List ℕ → List ℕ → Need → Bool
 is_need schema name need = bytes_eq need.schema schema && bytes_eq need.name name
 
 -- a trigger's table: the first of its needs, or the empty schema and name
-abbrev pub table_of : List Need → Need
-table_of [] = record { schema = []; name = [] }
-table_of (need ∷ needs) = need
+abbrev pub table_of_trigger : List Need → Need
+table_of_trigger [] = record { schema = []; name = [] }
+table_of_trigger (need ∷ needs) = need
 
 -- what an object of this kind stands in or on is there: a schema stands in nothing, a trigger in its schema and on its table
 abbrev pub has_place : Database → Object → Kind → Bool
@@ -43,12 +44,16 @@ has_place database object Table = has_schema database object.schema
 has_place database object Procedure = has_schema database object.schema
 has_place database object Function = has_schema database object.schema
 has_place database object View = has_schema database object.schema
-has_place database object Trigger = has_schema database object.schema && has_object database Table (table_of object.needs).schema (table_of object.needs).name
+has_place database object Trigger =
+    has_schema database object.schema && has_object database Table
+    (table_of_trigger object.needs).schema (table_of_trigger object.needs).name
 has_place database object Event = has_schema database object.schema
 
 -- the object may be made
 unfoldable pub may_make : Database → Object → Bool
-may_make database object = not (has_object database object.kind object.schema object.name) && has_place database object object.kind
+may_make database object =
+    not (has_object database object.kind object.schema object.name) && has_place database object
+    object.kind
 
 -- the object is another one in this schema
 abbrev pub stands_in : List ℕ → Object → Bool
@@ -56,19 +61,22 @@ stands_in schema object = bytes_eq object.schema schema && not (kind_eq object.k
 
 -- an object of this kind, schema and name may be dropped: it is there, and a schema has nothing in it
 unfoldable pub may_drop : Database → Kind → List ℕ → List ℕ → Bool
-may_drop database kind schema name = has_object database kind schema name && not (kind_eq kind Schema && list_any (stands_in schema) database.objects)
+may_drop database kind schema name =
+    has_object database kind schema name && not
+    (kind_eq kind Schema && list_any (stands_in schema) database.objects)
 
 -- a column is plain unless it is generated
-abbrev pub is_plain : Column → Bool
-is_plain column = not column.generated
+abbrev pub is_plain_column : Column → Bool
+is_plain_column column = not column.generated
 
 -- how many cells a row of a table with these columns has: one for each plain column
 abbrev pub plain_count : List Column → ℕ
-plain_count columns = length (filter is_plain columns)
+plain_count columns = length (filter is_plain_column columns)
 
 -- the object is this table, and has so many plain columns
 abbrev pub takes_row : List ℕ → List ℕ → ℕ → Object → Bool
-takes_row schema name cells object = is_object Table schema name object && (plain_count object.columns == cells)
+takes_row schema name cells object =
+    is_object Table schema name object && (plain_count object.columns == cells)
 
 -- a row may be put into this table: the table is there, and has as many plain columns as the row has cells
 abbrev pub fits_row : Database → List ℕ → List ℕ → List Cell → Bool
@@ -81,7 +89,9 @@ is_of_table schema name rows = is_need schema name rows.table
 -- the rows of this table among these, in their order, wherever they stand
 abbrev pub rows_in : List ℕ → List ℕ → List TableRows → List (List Cell)
 rows_in schema name [] = []
-rows_in schema name (one ∷ others) = if is_of_table schema name one then one.rows ++ rows_in schema name others else rows_in schema name others
+rows_in schema name (one ∷ others) =
+    if is_of_table schema name one then one.rows ++ rows_in schema name others
+    else rows_in schema name others
 
 -- the rows of a table
 unfoldable pub rows_of : Database → List ℕ → List ℕ → List (List Cell)
@@ -90,10 +100,13 @@ rows_of database schema name = rows_in schema name database.rows
 -- the rows without the first that is equal to this one; None where there is none
 abbrev pub without_first : List Cell → List (List Cell) → Option (List (List Cell))
 without_first row [] = None
-without_first row (one ∷ others) = if row_eq row one then Some others else option_map (λ (rest : List (List Cell)). one ∷ rest) (without_first row others)
+without_first row (one ∷ others) =
+    if row_eq row one then Some others
+    else option_map (λ (rest : List (List Cell)). one ∷ rest) (without_first row others)
 
 -- the row was found among these rows, or is looked for among those that follow
-abbrev pub found_or_later : TableRows → List TableRows → Option (List (List Cell)) → Option (List TableRows) → Option (List TableRows)
+abbrev pub found_or_later : TableRows → List TableRows → Option (List (List Cell)) →
+    Option (List TableRows) → Option (List TableRows)
 found_or_later one others (Some rows) later = Some (record one { rows = rows } ∷ others)
 found_or_later one others None later = option_map (λ (rest : List TableRows). one ∷ rest) later
 
@@ -101,7 +114,9 @@ found_or_later one others None later = option_map (λ (rest : List TableRows). o
 abbrev pub without_row : List ℕ → List ℕ → List Cell → List TableRows → Option (List TableRows)
 without_row schema name row [] = None
 without_row schema name row (one ∷ others) =
-    found_or_later one others (if is_of_table schema name one then without_first row one.rows else None) (without_row schema name row others)
+    found_or_later one others
+    (if is_of_table schema name one then without_first row one.rows else None)
+    (without_row schema name row others)
 
 -- the database with this object more, after the others
 abbrev pub with_object : Database → Object → Database
@@ -109,32 +124,45 @@ with_object database object = record database { objects = database.objects ++ ob
 
 -- the database with this row of this table more, after all others
 abbrev pub with_row : Database → List ℕ → List ℕ → List Cell → Database
-with_row database schema name row = record database { rows = database.rows ++ record { table = record { schema = schema; name = name }; rows = row ∷ [] } ∷ [] }
+with_row database schema name row =
+    record database {
+      rows = database.rows
+          ++ record { table = record { schema = schema; name = name }; rows = row ∷ [] } ∷ [];
+    }
 
 -- the database without an object, and, where that is a table, without its rows
 abbrev pub without_object : Database → Kind → List ℕ → List ℕ → Database
 without_object database kind schema name = record {
   objects = filter (λ object. not (is_object kind schema name object)) database.objects;
-  rows = if kind_eq kind Table then filter (λ rows. not (is_of_table schema name rows)) database.rows else database.rows;
+  rows = if kind_eq kind Table
+      then filter (λ rows. not (is_of_table schema name rows)) database.rows else database.rows;
 }
 
 -- the database after a change, where the change fits
 unfoldable pub change_db : Database → Change → Option Database
-change_db database (Make object) = if may_make database object then Some (with_object database object) else None
-change_db database (Drop kind schema name) = if may_drop database kind schema name then Some (without_object database kind schema name) else None
-change_db database (Put schema name row) = if fits_row database schema name row then Some (with_row database schema name row) else None
+change_db database (Make object) =
+    if may_make database object then Some (with_object database object) else None
+change_db database (Drop kind schema name) =
+    if may_drop database kind schema name then Some (without_object database kind schema name)
+    else None
+change_db database (Put schema name row) =
+    if fits_row database schema name row then Some (with_row database schema name row) else None
 change_db database (Remove schema name row) =
-    if has_object database Table schema name then option_map (λ (rows : List TableRows). record database { rows = rows }) (without_row schema name row database.rows) else None
+    if has_object database Table schema name
+    then option_map (λ (rows : List TableRows). record database { rows = rows })
+    (without_row schema name row database.rows) else None
 
 -- the database after changes one by one
 abbrev pub changes_db : Database → List Change → Option Database
 changes_db database [] = Some database
-changes_db database (change ∷ changes) = option_and_then (λ (next : Database). changes_db next changes) (change_db database change)
+changes_db database (change ∷ changes) =
+    option_and_then (λ (next : Database). changes_db next changes) (change_db database change)
 
 -- the database after transactions that follow
 abbrev pub more_db : Database → List Transaction → Option Database
 more_db database [] = Some database
-more_db database (one ∷ others) = option_and_then (λ (next : Database). more_db next others) (changes_db database one.changes)
+more_db database (one ∷ others) =
+    option_and_then (λ (next : Database). more_db next others) (changes_db database one.changes)
 
 -- the database before any transaction: no objects and no rows
 abbrev pub empty_db : Database

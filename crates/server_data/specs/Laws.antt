@@ -12,7 +12,8 @@ use Rattle.server_data.specs.declared.data.Transaction.{Transaction}
 
 -- one list after the other is an interleaving of them
 abbrev pub InTurn : Type 0
-InTurn = (lists : List (List Transaction)) → Interleaves lists (flat_map (λ (list : List Transaction). list) lists)
+InTurn = (lists : List (List Transaction)) →
+    Interleaves lists (flat_map (λ (list : List Transaction). list) lists)
 
 -- a list is a prefix of itself
 abbrev pub OfItself : Type 0
@@ -20,26 +21,34 @@ OfItself = (list : List Transaction) → IsPrefix list list
 
 -- a prefix of a prefix is a prefix
 abbrev pub OfPrefix : Type 0
-OfPrefix = (front more whole : List Transaction) → IsPrefix front more → IsPrefix more whole → IsPrefix front whole
+OfPrefix = (front more whole : List Transaction) → IsPrefix front more → IsPrefix more whole →
+    IsPrefix front whole
 
 -- nothing is left of the lists, and what is said of them and the state holds
-pub record HoldsAtEnd (holds : List (List Transaction) → Database → Bool) (state : Database) : Type 0 where
+pub record HoldsAtEnd (holds : List (List Transaction) → Database → Bool)
+    (state : Database) : Type 0 where
   pub left : List (List Transaction)
   pub none : All (λ (list : List Transaction). list ≡ []) left
   pub held : IsTrue (holds left state)
 
 -- each step keeps what is said of what is left of the lists and of the state
-abbrev pub IsKept : (Database → Transaction → Database) → (List (List Transaction) → Database → Bool) → Type 0
-IsKept after holds = (lists fewer : List (List Transaction)) (one : Transaction) (state : Database) → TakesHead lists one fewer → IsTrue (holds lists state) → IsTrue (holds fewer (after state one))
+abbrev pub IsKept : (Database → Transaction → Database) →
+    (List (List Transaction) → Database → Bool) → Type 0
+IsKept after holds =
+    (lists fewer : List (List Transaction)) (one : Transaction) (state : Database) →
+    TakesHead lists one fewer → IsTrue (holds lists state) → IsTrue (holds fewer (after state one))
 
 -- what each step keeps holds at the end of an interleaving
 abbrev pub KeptToEnd : Type 0
-KeptToEnd = (after : Database → Transaction → Database) (holds : List (List Transaction) → Database → Bool) → IsKept after holds
-    → (lists : List (List Transaction)) (whole : List Transaction) → Interleaves lists whole → (state : Database) → IsTrue (holds lists state) → HoldsAtEnd holds (fold after state whole)
+KeptToEnd = (after : Database → Transaction → Database)
+    (holds : List (List Transaction) → Database → Bool) → IsKept after holds
+    → (lists : List (List Transaction)) (whole : List Transaction) → Interleaves lists whole →
+    (state : Database) → IsTrue (holds lists state) → HoldsAtEnd holds (fold after state whole)
 
 -- a pattern matches the texts that are the pattern with its `*` and `?` replaced, and no others
 abbrev pub PatternsAreReplaced : Type 0
-PatternsAreReplaced = (pattern text : List ℕ) → IsTrue (matches pattern text) ↔ IsReplaced pattern text
+PatternsAreReplaced =
+    (pattern text : List ℕ) → IsTrue (matches pattern text) ↔ IsReplaced pattern text
 
 -- two kinds that are told to be equal are the same
 abbrev pub KindsAreToldApart : Type 0

@@ -16,11 +16,15 @@ begins_with byte test (first ∷ rest) = (byte == 63 || byte == first) && test r
 unfoldable pub matches : List ℕ → List ℕ → Bool
 matches [] [] = true
 matches [] (first ∷ rest) = false
-matches (byte ∷ pattern) text = if byte == 42 then any_suffix (matches pattern) text else begins_with byte (matches pattern) text
+matches (byte ∷ pattern) text =
+    if byte == 42 then any_suffix (matches pattern) text
+    else begins_with byte (matches pattern) text
 
 -- the bytes may stand for this byte of a pattern: any bytes for `*`, one byte for `?`, a byte itself for every other
 abbrev pub may_stand : ℕ → List ℕ → Bool
-may_stand byte part = if byte == 42 then true else (if byte == 63 then length part == 1 else bytes_eq part (byte ∷ []))
+may_stand byte part =
+    if byte == 42 then true
+    else (if byte == 63 then length part == 1 else bytes_eq part (byte ∷ []))
 
 -- there is a part for each byte of the pattern, which may stand for it
 abbrev pub stand_for : List ℕ → List (List ℕ) → Bool

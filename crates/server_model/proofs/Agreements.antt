@@ -5,10 +5,10 @@ use Rattle.std.specs.List.{list_all, list_any}
 use Rattle.std.proofs.lemmas.Bool.Decides.{Decides-eqb}
 use Rattle.object_forms.specs.declared.kind.Kind.TheVariants.{Trigger}
 use Rattle.sql_cells.specs.declared.cell.Cell.{Cell}
-use Rattle.server_data.specs.Agree.{Agree, HasSameObjects, comes_before, is_before, is_trigger, object_eq, settings_eq}
+use Rattle.server_data.specs.Agree.{Agree, HasSameObjects, comes_before, is_before, is_trigger_named, object_eq, settings_eq}
 use Rattle.server_data.specs.Bag.{IsSameBag, count_of}
 use Rattle.server_data.specs.Equal.{kind_eq, row_eq}
-use Rattle.server_data.specs.Fold.{is_need, is_of_table, rows_in, rows_of, table_of}
+use Rattle.server_data.specs.Fold.{is_need, is_of_table, rows_in, rows_of, table_of_trigger}
 use Rattle.server_model.specs.Members.{agrees, is_as_often, is_same, same_objects, same_order, same_pair, same_pairs, same_row, same_rows, same_table}
 use Rattle.server_data.specs.declared.data.Database.{Database}
 use Rattle.server_data.specs.declared.data.Object.{Object}
@@ -104,27 +104,27 @@ is_same_of : (a b : Bool) → a ≡ b → is_same a b ≡ true
 is_same_of true b e = sym e
 is_same_of false b e = rw (← e) refl
 
-at_second : (one other : Database) (schema table first second : List ℕ) (x : Object) → is_trigger schema table first x ≡ true → (y : Object) → (is_trigger schema table second y && comes_before x y) ≡ true → same_pair one other x y ≡ true
+at_second : (one other : Database) (schema table first second : List ℕ) (x : Object) → is_trigger_named schema table first x ≡ true → (y : Object) → (is_trigger_named schema table second y && comes_before x y) ≡ true → same_pair one other x y ≡ true
     → is_before one schema table first second ≡ is_before other schema table first second
 at_second one other schema table first second x is_x y is_y same =
     let x1 = and_right (kind_eq x.kind Trigger) _ is_x in
-    let on = and_left (is_need schema table (table_of x.needs)) _ x1 in
-    let schema_is = bytes_are (table_of x.needs).schema schema (and_left _ _ on) in
-    let table_is = bytes_are (table_of x.needs).name table (and_right (bytes_eq (table_of x.needs).schema schema) _ on) in
-    let first_is = bytes_are x.name first (and_right (is_need schema table (table_of x.needs)) _ x1) in
-    let y0 = and_left (is_trigger schema table second y) (comes_before x y) is_y in
+    let on = and_left (is_need schema table (table_of_trigger x.needs)) _ x1 in
+    let schema_is = bytes_are (table_of_trigger x.needs).schema schema (and_left _ _ on) in
+    let table_is = bytes_are (table_of_trigger x.needs).name table (and_right (bytes_eq (table_of_trigger x.needs).schema schema) _ on) in
+    let first_is = bytes_are x.name first (and_right (is_need schema table (table_of_trigger x.needs)) _ x1) in
+    let y0 = and_left (is_trigger_named schema table second y) (comes_before x y) is_y in
     let y1 = and_right (kind_eq y.kind Trigger) _ y0 in
-    let second_is = bytes_are y.name second (and_right (is_need schema table (table_of y.needs)) _ y1) in
-    let e = same_is (is_before one (table_of x.needs).schema (table_of x.needs).name x.name y.name) (is_before other (table_of x.needs).schema (table_of x.needs).name x.name y.name) (where_not (kind_eq y.kind Trigger) _ (and_left _ _ y0) same) in
+    let second_is = bytes_are y.name second (and_right (is_need schema table (table_of_trigger y.needs)) _ y1) in
+    let e = same_is (is_before one (table_of_trigger x.needs).schema (table_of_trigger x.needs).name x.name y.name) (is_before other (table_of_trigger x.needs).schema (table_of_trigger x.needs).name x.name y.name) (where_not (kind_eq y.kind Trigger) _ (and_left _ _ y0) same) in
     rw (← schema_is, ← table_is, ← first_is, ← second_is) e
 
-at_first : (one other : Database) (schema table first second : List ℕ) (objects : List Object) (x : Object) → (is_trigger schema table first x && list_any (λ (y : Object). is_trigger schema table second y && comes_before x y) objects) ≡ true → same_pairs one other objects x ≡ true
+at_first : (one other : Database) (schema table first second : List ℕ) (objects : List Object) (x : Object) → (is_trigger_named schema table first x && list_any (λ (y : Object). is_trigger_named schema table second y && comes_before x y) objects) ≡ true → same_pairs one other objects x ≡ true
     → is_before one schema table first second ≡ is_before other schema table first second
 at_first one other schema table first second objects x is same =
-    let is_x = and_left (is_trigger schema table first x) (list_any (λ (y : Object). is_trigger schema table second y && comes_before x y) objects) is in
-    let has = and_right (is_trigger schema table first x) (list_any (λ (y : Object). is_trigger schema table second y && comes_before x y) objects) is in
+    let is_x = and_left (is_trigger_named schema table first x) (list_any (λ (y : Object). is_trigger_named schema table second y && comes_before x y) objects) is in
+    let has = and_right (is_trigger_named schema table first x) (list_any (λ (y : Object). is_trigger_named schema table second y && comes_before x y) objects) is in
     let all = where_not (kind_eq x.kind Trigger) (list_all (same_pair one other x) objects) (and_left _ _ is_x) same in
-    one_of has (found (λ (y : Object). is_trigger schema table second y && comes_before x y) (same_pair one other x) _ (at_second one other schema table first second x is_x) objects all)
+    one_of has (found (λ (y : Object). is_trigger_named schema table second y && comes_before x y) (same_pair one other x) _ (at_second one other schema table first second x is_x) objects all)
   where
     one_of : {Q : Type 0} {b : Bool} → b ≡ true → (b ≡ false) ⊎ Q → Q
     one_of e (inl f) = absurd (cc)
@@ -134,7 +134,7 @@ at_first one other schema table first second objects x is same =
 ordered : (one other : Database) (schema table first second : List ℕ) (database : Database) → list_all (same_pairs one other database.objects) database.objects ≡ true
     → (is_before database schema table first second ≡ false) ⊎ (is_before one schema table first second ≡ is_before other schema table first second)
 unfolding is_before
-ordered one other schema table first second database all = found (λ (x : Object). is_trigger schema table first x && list_any (λ (y : Object). is_trigger schema table second y && comes_before x y) database.objects) (same_pairs one other database.objects) _ (at_first one other schema table first second database.objects) database.objects all
+ordered one other schema table first second database all = found (λ (x : Object). is_trigger_named schema table first x && list_any (λ (y : Object). is_trigger_named schema table second y && comes_before x y) database.objects) (same_pairs one other database.objects) _ (at_first one other schema table first second database.objects) database.objects all
 
 order_from : (one other : Database) → same_order one other ≡ true → (schema table first second : List ℕ) → is_before one schema table first second ≡ is_before other schema table first second
 order_from one other e schema table first second =
@@ -149,7 +149,7 @@ order_all : (one other : Database) → ((schema table first second : List ℕ) �
 order_all one other is = and_both _ _ (every _ one.objects (pairs one.objects)) (every _ other.objects (pairs other.objects))
   where
     pairs : (objects : List Object) (x : Object) → same_pairs one other objects x ≡ true
-    pairs objects x = or_right _ _ (every (same_pair one other x) objects (λ y. or_right _ _ (is_same_of _ _ (is (table_of x.needs).schema (table_of x.needs).name x.name y.name))))
+    pairs objects x = or_right _ _ (every (same_pair one other x) objects (λ y. or_right _ _ (is_same_of _ _ (is (table_of_trigger x.needs).schema (table_of_trigger x.needs).name x.name y.name))))
 
 -- all
 

@@ -1,9 +1,9 @@
 //! Whether two databases agree.
 ghost use Rattle.std.specs.Prelude.{◌≡◌, ◌↔◌, IsTrue, count_by};
 ghost use Rattle.std.specs.List.{list_all};
-ghost use Rattle.server_data.specs.Agree.{Agree, comes_before, is_before, is_trigger, object_eq, settings_eq};
+ghost use Rattle.server_data.specs.Agree.{Agree, comes_before, is_before, is_trigger_named, object_eq, settings_eq};
 ghost use Rattle.server_data.specs.Bag.{count_of};
-ghost use Rattle.server_data.specs.Fold.{is_need, rows_in, rows_of, table_of};
+ghost use Rattle.server_data.specs.Fold.{is_need, rows_in, rows_of, table_of_trigger};
 ghost use Rattle.server_model.specs.Parts.{count_in_table, goes_before, has_after, is_before_there, is_trigger_after};
 ghost use Rattle.server_model.specs.Members.{agrees, is_as_often, is_same, same_objects, same_order, same_pair, same_pairs, same_row, same_rows, same_table};
 
@@ -185,7 +185,7 @@ fn is_trigger_after(
 }
 
 fn is_trigger(schema: &[u8], table: &[u8], name: &[u8], object: &Object) -> bool
-    ensures { result ≡ is_trigger schema.now table.now name.now object.now }
+    ensures { result ≡ is_trigger_named schema.now table.now name.now object.now }
 {
     is_kind(object.kind, Kind::Trigger)
         && is_on(schema, table, object.needs.as_slice())
@@ -193,7 +193,7 @@ fn is_trigger(schema: &[u8], table: &[u8], name: &[u8], object: &Object) -> bool
 }
 
 fn is_on(schema: &[u8], table: &[u8], needs: &[Need]) -> bool
-    ensures { result ≡ is_need schema.now table.now (table_of needs.now) }
+    ensures { result ≡ is_need schema.now table.now (table_of_trigger needs.now) }
 {
     let (of_schema, of_table) = table_of(needs);
     are_bytes(of_schema, schema) && are_bytes(of_table, table)

@@ -1,6 +1,6 @@
 //! What is in a database.
 ghost use Rattle.std.specs.Prelude.{◌≡◌};
-ghost use Rattle.server_data.specs.Fold.{has_object, has_schema, is_need, is_object, is_of_table, table_of};
+ghost use Rattle.server_data.specs.Fold.{has_object, has_schema, is_need, is_object, is_of_table, table_of_trigger};
 
 use crate::equal::{are_bytes, is_kind};
 use object_forms::Kind;
@@ -38,8 +38,8 @@ pub(crate) fn is_need(schema: &[u8], name: &[u8], need: &Need) -> bool
 
 // The schema and the name of a trigger's table: those of its first need, or empty ones.
 pub(crate) fn table_of(needs: &[Need]) -> (&[u8], &[u8])
-    ensures schema { result.0.now ≡ (table_of needs.now).schema }
-    ensures name { result.1.now ≡ (table_of needs.now).name }
+    ensures schema { result.0.now ≡ (table_of_trigger needs.now).schema }
+    ensures name { result.1.now ≡ (table_of_trigger needs.now).name }
 {
     match needs {
         [] => (b"", b""),

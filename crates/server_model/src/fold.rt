@@ -2,7 +2,7 @@
 ghost use Rattle.std.specs.Prelude.{◌≡◌, IfOk};
 ghost use Rattle.std.specs.List.{list_any};
 ghost use Rattle.server_data.specs.declared.data.Change.TheVariants.{Make, Drop, Put, Remove};
-ghost use Rattle.server_data.specs.Fold.{changes_db, db, fits_row, has_place, is_plain, may_drop, may_make, plain_count, stands_in, table_of, takes_row, without_first, without_row};
+ghost use Rattle.server_data.specs.Fold.{changes_db, db, fits_row, has_place, is_plain_column, may_drop, may_make, plain_count, stands_in, table_of_trigger, takes_row, without_first, without_row};
 ghost use Rattle.server_model.specs.Parts.{Applied, Fitted, has_table_of, objects_without, rows_without, tables_after, tables_without};
 
 use crate::equal::{are_bytes, is_kind, is_row};
@@ -195,7 +195,7 @@ fn has_place(database: &Database, object: &Object) -> bool
 
 // The table that a trigger needs is there.
 fn has_table_of(database: &Database, needs: &[Need]) -> bool
-    ensures { result ≡ has_table_of database.now (table_of needs.now) }
+    ensures { result ≡ has_table_of database.now (table_of_trigger needs.now) }
 {
     let (schema, name) = table_of(needs);
     has_object(database, Kind::Table, schema, name)
@@ -246,7 +246,7 @@ fn plain_count(columns: &[Column]) -> usize
 }
 
 fn is_plain(column: &Column) -> bool
-    ensures { result ≡ is_plain column.now }
+    ensures { result ≡ is_plain_column column.now }
 {
     !column.generated
 }

@@ -1,6 +1,6 @@
 //! How long names are in the names of files.
 ghost use Rattle.std.specs.Prelude.{◌≡◌, ◌≤◌, length};
-ghost use Rattle.server_data.specs.Names.{escaped_name, escaped_byte, stands_as_it_is};
+ghost use Rattle.server_data.specs.Names.{escaped_name, file_name_byte, stands_as_it_is};
 
 /// How many bytes a name takes in the name of a file: one for a letter, a digit or `_` of ASCII, and
 /// three for any other byte, which is written as `@` and two hexadecimal digits. The name has at
@@ -17,7 +17,7 @@ pub fn escaped_length(name: &[u8]) -> usize
 }
 
 fn byte_size(byte: u8) -> usize
-    ensures value { result ≡ length (escaped_byte byte) }
+    ensures value { result ≡ length (file_name_byte byte) }
     ensures bound { result ≤ 3 }
 {
     if stands(byte) { 1 } else { 3 }

@@ -2,7 +2,7 @@
 ghost use Rattle.std.specs.Prelude.{◌≡◌, IfOk, bytes_eq};
 ghost use Rattle.std.specs.List.{list_any};
 ghost use Rattle.server_data.specs.Fold.{is_need};
-ghost use Rattle.server_data.specs.Select.{dotted, fits_pattern, is_empty, is_reserved, names_or_any, selection, selects_object, selects_rows, selects_schema, selects_table};
+ghost use Rattle.server_data.specs.Select.{dotted_table, fits_pattern, is_empty, is_reserved, names_or_any, selection, selects_object, selects_rows, selects_schema, selects_table};
 ghost use Rattle.server_model.specs.Parts.{has_schema_or_any, has_table, has_table_or_any, selected_objects, selected_rows, selects_as_kind, selects_trigger};
 
 use crate::equal::are_bytes;
@@ -176,7 +176,7 @@ fn fits_pattern(
     schema: &[u8],
     name: &[u8],
 ) -> Result<bool, OutOfMemory>
-    ensures { IfOk result (λ is. is ≡ fits_pattern pattern.now (dotted schema.now name.now)) }
+    ensures { IfOk result (λ is. is ≡ fits_pattern pattern.now (dotted_table schema.now name.now)) }
 {
     match pattern {
         None => Ok(true),
@@ -188,7 +188,7 @@ fn fits_pattern(
 }
 
 fn dotted(alloc: Global, schema: &[u8], name: &[u8]) -> Result<Bytes, OutOfMemory>
-    ensures { IfOk result (λ made. made ≡ dotted schema.now name.now) }
+    ensures { IfOk result (λ made. made ≡ dotted_table schema.now name.now) }
 {
     let mut items = schema.to_vec(alloc)?;
     items.push(b'.')?;

@@ -1,22 +1,22 @@
 -- Literals of SQL as they are written (MySQL 8.0 Reference Manual, 11.1.1 "String Literals", 11.1.2 "Numeric Literals", 11.1.4 "Hexadecimal Literals", 11.1.7 "NULL Values"; 14.10 "Cast Functions and Operators").
 use Rattle.std.specs.Prelude.{ℕ, ◌==◌, ◌||◌, if◌then◌else◌, Bool, true, List, [], ◌∷◌, ◌++◌, Option, Some, None, codes}
 use Rattle.std.specs.List.{flat_map}
+use Rattle.plain_data.specs.Cell.{Cell}
 use Rattle.hex.specs.Hex.{encode_upper}
 use Rattle.sql_cells.specs.Number.{is_number}
 use Rattle.sql_cells.specs.declared.cell_kind.CellKind.{CellKind}
 use Rattle.sql_cells.specs.declared.cell_kind.CellKind.TheVariants.{Number, Text, Hex, Converted}
 
--- a cell of a row: NULL, or its bytes
-abbrev pub Cell : Type 0
-Cell = Option (List ℕ)
-
 -- the bytes that stand after a backslash: 00, line feed, carriage return, 1a, both quotes, the backslash
 abbrev pub is_special : ℕ → Bool
-is_special byte = byte == 0 || byte == 10 || byte == 13 || byte == 26 || byte == 34 || byte == 39 || byte == 92
+is_special byte =
+    byte == 0 || byte == 10 || byte == 13 || byte == 26 || byte == 34 || byte == 39 || byte == 92
 
 -- the letter that stands for a special byte: 0, n, r, Z, and each other one for itself
 abbrev pub letter_of : ℕ → ℕ
-letter_of byte = if byte == 0 then 48 else (if byte == 10 then 110 else (if byte == 13 then 114 else (if byte == 26 then 90 else byte)))
+letter_of byte =
+    if byte == 0 then 48 else
+    (if byte == 10 then 110 else (if byte == 13 then 114 else (if byte == 26 then 90 else byte)))
 
 -- a byte as it stands between quotes: a special one as its letter after a backslash, each other one as it is
 abbrev pub escaped_byte : ℕ → List ℕ

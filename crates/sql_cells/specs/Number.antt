@@ -1,11 +1,8 @@
 -- Numbers of SQL without an exponent (MySQL 8.0 Reference Manual, 11.1.2 "Numeric Literals").
 use Rattle.std.specs.Prelude.{ℕ, ◌==◌, ◌&&◌, nat_le, if◌then◌else◌, Bool, true, false, List, [], ◌∷◌}
 use Rattle.std.specs.List.{list_all}
+use Rattle.plain_data.specs.Byte.{is_digit}
 use Rattle.grammar.specs.Language.{Language, Nothing, Fixed, One, Then, Or, Many}
-
--- a decimal digit
-abbrev pub is_digit : ℕ → Bool
-is_digit byte = nat_le 48 byte && nat_le byte 57
 
 -- one digit or more
 unfoldable pub Digits : Language
@@ -42,9 +39,11 @@ is_fraction (byte ∷ bytes) = byte == 46 && is_digits bytes
 -- digits, and after them nothing, or a point and digits
 abbrev pub is_unsigned_after : Bool → List ℕ → Bool
 is_unsigned_after any [] = any
-is_unsigned_after any (byte ∷ bytes) = if is_digit byte then is_unsigned_after true bytes else any && is_fraction (byte ∷ bytes)
+is_unsigned_after any (byte ∷ bytes) =
+    if is_digit byte then is_unsigned_after true bytes else any && is_fraction (byte ∷ bytes)
 
 -- an optional minus, digits, and optionally a point and digits
 abbrev pub is_number : List ℕ → Bool
 is_number [] = false
-is_number (byte ∷ bytes) = if byte == 45 then is_unsigned_after false bytes else is_unsigned_after false (byte ∷ bytes)
+is_number (byte ∷ bytes) =
+    if byte == 45 then is_unsigned_after false bytes else is_unsigned_after false (byte ∷ bytes)

@@ -5,7 +5,8 @@ use Rattle.hex.specs.Hex.{is_hex_digit, decode_pairs}
 use Rattle.hex.specs.declared.error.FromHexError.{FromHexError}
 use Rattle.grammar.specs.Language.{Language, Fixed, One, Then, Or, Many, Longest}
 use Rattle.sql_cells.specs.Number.{Number}
-use Rattle.sql_cells.specs.Literal.{Cell, literal}
+use Rattle.plain_data.specs.Cell.{Cell}
+use Rattle.sql_cells.specs.Literal.{literal}
 use Rattle.sql_cells.specs.declared.cell_kind.CellKind.{CellKind}
 use Rattle.sql_cells.specs.declared.cell_kind.CellKind.TheVariants as Kind
 
@@ -18,12 +19,14 @@ abbrev pub is_plain : ℕ → Bool
 is_plain byte = if byte == 39 then false else (if byte == 92 then false else true)
 
 -- the letters that stand after a backslash: 0 b n r Z " ' \
-abbrev pub is_letter : ℕ → Bool
-is_letter byte = byte == 48 || byte == 98 || byte == 110 || byte == 114 || byte == 90 || byte == 34 || byte == 39 || byte == 92
+abbrev pub is_escape_letter : ℕ → Bool
+is_escape_letter byte =
+    byte == 48 || byte == 98 || byte == 110 || byte == 114 || byte == 90 || byte == 34 || byte == 39
+    || byte == 92
 
 -- a backslash and a letter
 unfoldable pub Escape : Language
-Escape = Then (Fixed (92 ∷ [])) (One is_letter)
+Escape = Then (Fixed (92 ∷ [])) (One is_escape_letter)
 
 -- one byte between quotes
 unfoldable pub Inner : Language
@@ -67,13 +70,19 @@ Literal = Or Null (Or Number (Or Text (Or Hex Converted)))
 
 -- the byte that a letter after a backslash stands for
 abbrev pub letter_value : ℕ → ℕ
-letter_value letter = if letter == 48 then 0 else (if letter == 98 then 8 else (if letter == 110 then 10 else (if letter == 114 then 13 else (if letter == 90 then 26 else letter))))
+letter_value letter =
+    if letter == 48 then 0 else
+    (if letter == 98 then 8
+    else (if letter == 110 then 10
+    else (if letter == 114 then 13 else (if letter == 90 then 26 else letter))))
 
 -- what the bytes between the first and the last quote stand for: two bytes stand for one after a backslash and after a quote
 abbrev pub text_value : List ℕ → List ℕ
 text_value [] = []
 text_value (byte ∷ []) = byte ∷ []
-text_value (byte ∷ next ∷ bytes) = if byte == 92 then letter_value next ∷ text_value bytes else (if byte == 39 then 39 ∷ text_value bytes else byte ∷ text_value (next ∷ bytes))
+text_value (byte ∷ next ∷ bytes) =
+    if byte == 92 then letter_value next ∷ text_value bytes
+    else (if byte == 39 then 39 ∷ text_value bytes else byte ∷ text_value (next ∷ bytes))
 
 -- the bytes that pairs of digits stand for
 abbrev pub hex_bytes : Result (List ℕ) FromHexError → List ℕ
@@ -116,4 +125,5 @@ EndsThere (byte ∷ bytes) = (byte ≡ 44) ⊎ (byte ≡ 41)
 pub record IsReadBack (kind : CellKind) (cell : Cell) : Type 0 where
   pub spells : Spells (literal kind cell) cell
   pub kind_is : literal_kind (literal kind cell) ≡ option_map (λ _. kind) cell
-  pub whole : (more : List ℕ) → EndsThere more → Longest Literal (literal kind cell ++ more) (length (literal kind cell))
+  pub whole : (more : List ℕ) → EndsThere more →
+      Longest Literal (literal kind cell ++ more) (length (literal kind cell))

@@ -5,7 +5,8 @@ use Rattle.std.specs.List.{flat_map}
 use Rattle.hex.specs.Hex.{IsBytes, encode_upper, upper_digits, decode_pairs}
 use Rattle.hex.proofs.HexLemmas.{IsDigits-upper_digits, decode_pairs-encode_with}
 use Rattle.grammar.specs.Language.{Fixed, Or}
-use Rattle.sql_cells.specs.Literal.{Cell, escaped_byte, has_literal}
+use Rattle.plain_data.specs.Cell.{Cell}
+use Rattle.sql_cells.specs.Literal.{escaped_byte, has_literal}
 use Rattle.sql_cells.specs.Spelling.{Null, Literal, text_value, hex_bytes, IsReadBack}
 use Rattle.sql_cells.specs.declared.cell_kind.CellKind.{CellKind}
 use Rattle.sql_cells.specs.declared.cell_kind.CellKind.TheVariants.{Number, Text, Hex, Converted}

@@ -7,7 +7,8 @@ use Rattle.std.specs.List.{list_all}
 use Rattle.grammar.specs.Language.{Language, Begins, Reads, Then, Next, HasNone}
 use Rattle.grammar.proofs.Places.{begins_text}
 use Rattle.grammar.proofs.Rows.{Apart, NextApart, second_of_row}
-use Rattle.sql_cells.specs.Number.{is_digit, Digits}
+use Rattle.plain_data.specs.Byte.{is_digit}
+use Rattle.sql_cells.specs.Number.{Digits}
 use Rattle.sql_literals.proofs.Grammar.{digits_hold, digits_pass}
 
 unfoldable pub Full : Language → Type 0

@@ -4,7 +4,8 @@ use Rattle.std.specs.List.{list_all}
 use Rattle.std.proofs.lemmas.Bool.{and_parts}
 use Rattle.std.proofs.lemmas.Bool.Decides.{nat_tests}
 use Rattle.grammar.specs.Language.{Nothing, Fixed, One, Then, Or, Times, Many}
-use Rattle.sql_cells.specs.Number.{is_digit, is_digits, is_fraction, is_unsigned_after, is_number, Digits, Sign, Point, Fraction, Number}
+use Rattle.plain_data.specs.Byte.{is_digit}
+use Rattle.sql_cells.specs.Number.{is_digits, is_fraction, is_unsigned_after, is_number, Digits, Sign, Point, Fraction, Number}
 
 more_digits : (x : ℕ) (xs : List ℕ) → is_digit x ≡ true → Many (One is_digit) xs → Many (One is_digit) (x ∷ xs)
 unfolding Many Times Then One

@@ -5,7 +5,8 @@ use Rattle.grammar.proofs.Choices.{place_or, reads_or, reads_or_other, neither}
 use Rattle.grammar.proofs.Empty.{no_empty_fixed, begins_fixed, begins_or}
 use Rattle.grammar.proofs.Sets.{Starts, Lengthens, starts_fixed, starts_either, lengthens_fixed, lengthens_or, lengthens_wider, place_other}
 use Rattle.grammar.proofs.Skips.{skips_or, skips_or_other}
-use Rattle.sql_cells.specs.Number.{is_digit, Number}
+use Rattle.plain_data.specs.Byte.{is_digit}
+use Rattle.sql_cells.specs.Number.{Number}
 use Rattle.sql_cells.specs.Spelling.{Null, Text, Hex, Converted, Literal}
 use Rattle.sql_literals.proofs.NumberReads.{IsDigit, IsNumberStart, IsNumberMore, no_empty_number, begins_number, starts_number, lengthens_number}
 use Rattle.sql_literals.proofs.TextReads.{no_empty_text, begins_text, starts_text, lengthens_text}

@@ -11,7 +11,8 @@ use Rattle.grammar.proofs.Rows.{Apart, then_broken}
 use Rattle.grammar.proofs.Sets.{Starts, Lengthens, apart_by, starts_fixed, starts_one, starts_then, starts_row, starts_optional, starts_wider, starts_many, lengthens_fixed, lengthens_one, lengthens_then, lengthens_before, lengthens_optional, lengthens_wider, lengthens_many}
 use Rattle.grammar.proofs.Skips.{longest_whole, longest_optional, none_row}
 use Rattle.sql_literals.proofs.Fulls.{Full, none_full, full_then, full_digits}
-use Rattle.sql_cells.specs.Number.{is_digit, Digits, Sign, Point, Fraction, Number}
+use Rattle.plain_data.specs.Byte.{is_digit}
+use Rattle.sql_cells.specs.Number.{Digits, Sign, Point, Fraction, Number}
 
 abbrev pub IsDigit : ℕ → Type 0
 IsDigit b = is_digit b ≡ true

@@ -3,7 +3,8 @@ use Rattle.std.proofs.Common.{◌≡◌, ◌&&◌, ℕ, suc, ◌+◌, ◌-◌, �
 use Rattle.std.specs.List.{prefix_len, list_all}
 use Rattle.std.proofs.lemmas.List.{take_all, length-drop}
 use Rattle.std.proofs.lemmas.Bool.Decides.{nat_tests}
-use Rattle.sql_cells.specs.Number.{is_digit, is_digits, is_fraction, is_unsigned_after}
+use Rattle.plain_data.specs.Byte.{is_digit}
+use Rattle.sql_cells.specs.Number.{is_digits, is_fraction, is_unsigned_after}
 
 eqb_next : (m n : ℕ) → eqb m n ≡ eqb (1 + m) (suc n)
 eqb_next m n = grind (arith, nat_tests)

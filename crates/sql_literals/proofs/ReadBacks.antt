@@ -9,9 +9,10 @@ use Rattle.hex.proofs.HexLemmas.{IsDigits-upper_digits}
 use Rattle.grammar.specs.Language.{Language, Nothing, Fixed, One, Then, Or, Times, Many, Longest}
 use Rattle.grammar.proofs.Places.{begins_front}
 use Rattle.grammar.proofs.Sets.{Starts, Lengthens}
-use Rattle.sql_cells.specs.Number.{is_digit, Number}
+use Rattle.plain_data.specs.Byte.{is_digit}
+use Rattle.sql_cells.specs.Number.{Number}
 use Rattle.sql_cells.specs.Literal.{is_special, letter_of, escaped_byte, text_literal, hex_literal, converted_literal}
-use Rattle.sql_cells.specs.Spelling.{is_plain, is_letter, Null, Escape, Inner, Opened, Quoted, Text, Pair, OpenedHex, Hex, OpenedConverted, Converted, Literal, inside, cell_of, literal_kind, EndsThere}
+use Rattle.sql_cells.specs.Spelling.{is_plain, is_escape_letter, Null, Escape, Inner, Opened, Quoted, Text, Pair, OpenedHex, Hex, OpenedConverted, Converted, Literal, inside, cell_of, literal_kind, EndsThere}
 use Rattle.sql_cells.specs.declared.cell_kind.CellKind.TheVariants as Kind
 use Rattle.sql_literals.proofs.NumberReads.{no_empty_number, IsDigit, IsNumberStart, IsNumberMore, starts_number, lengthens_number}
 use Rattle.sql_literals.proofs.TextReads.{lengthens_text}
@@ -58,7 +59,7 @@ one_more : (L : Language) (a b : List ℕ) → L a → Many L b → Many L (a ++
 unfolding Many Times Then
 one_more L a b first (n, rest) = (suc n, (a, b, refl, first, rest))
 
-special_letter : (x : ℕ) → is_special x ≡ true → is_letter (letter_of x) ≡ true
+special_letter : (x : ℕ) → is_special x ≡ true → is_escape_letter (letter_of x) ≡ true
 special_letter x special = grind (arith, nat_tests)
 
 not_special_plain : (x : ℕ) → is_special x ≡ false → is_plain x ≡ true

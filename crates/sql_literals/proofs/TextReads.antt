@@ -14,7 +14,7 @@ use Rattle.grammar.proofs.Sets.{Starts, Lengthens, apart_by, apart_free, starts_
 use Rattle.grammar.proofs.Skips.{none_row, none_broken}
 use Rattle.sql_cells.specs.Literal.{is_special}
 use Rattle.sql_literals.specs.Runs.{PlainRun}
-use Rattle.sql_cells.specs.Spelling.{is_plain, is_letter, Escape, Inner, Opened, Quoted, Text}
+use Rattle.sql_cells.specs.Spelling.{is_plain, is_escape_letter, Escape, Inner, Opened, Quoted, Text}
 
 abbrev IsPlain : ℕ → Type 0
 IsPlain b = is_plain b ≡ true
@@ -39,7 +39,7 @@ starts_escape = starts_then _ _ _ (no_empty_fixed 92 []) (starts_fixed 92 [])
 
 lengthens_escape : (P : ℕ → Type 0) → Lengthens Escape P
 unfolding Escape
-lengthens_escape P = lengthens_then _ _ P (fixed_apart _ _) (no_empty_one is_letter) (lengthens_one is_letter P)
+lengthens_escape P = lengthens_then _ _ P (fixed_apart _ _) (no_empty_one is_escape_letter) (lengthens_one is_escape_letter P)
 
 pub no_empty_inner : ¬ Inner []
 unfolding Inner
@@ -113,7 +113,7 @@ text_broken s p broken = record {
 
 escape_none : (s : List ℕ) → (0 < length s → get_or s 0 0 ≢ 92) → Reads Escape s (Err 0)
 unfolding Escape
-escape_none s other = then_broken _ _ s 0 (fixed_apart _ _) (begins_one is_letter 48 refl) (fixed_other 92 [] s other)
+escape_none s other = then_broken _ _ s 0 (fixed_apart _ _) (begins_one is_escape_letter 48 refl) (fixed_other 92 [] s other)
 
 plain_none : (s : List ℕ) → (0 < length s → is_plain (get_or s 0 0) ≡ false) → Reads (One is_plain) s (Err 0)
 plain_none s not_plain = one_none is_plain 48 refl s not_plain
@@ -136,18 +136,18 @@ pub inner_plain : (s : List ℕ) → 0 < length s → get_or s 0 0 ≢ 39 → ge
 unfolding Inner
 inner_plain s long quote back = whole_or _ _ s 1 0 (one_there is_plain s long (grind (arith, nat_tests))) (escape_none s (λ long. back)).place (omega arith)
 
-pub inner_escape : (s : List ℕ) → 1 < length s → get_or s 0 0 ≡ 92 → is_letter (get_or s 1 0) ≡ true → Reads Inner s (Ok 2)
+pub inner_escape : (s : List ℕ) → 1 < length s → get_or s 0 0 ≡ 92 → is_escape_letter (get_or s 1 0) ≡ true → Reads Inner s (Ok 2)
 unfolding Inner Escape
 inner_escape s long back letter = reads_same _ _ s (Ok 2) (swapped _ _) (swapped _ _)
     (whole_or _ _ s 2 0
-    (then_read _ _ s 1 (Ok 1) (fixed_apart _ _) (fixed_byte 92 s (omega arith) back) (one_there is_letter (drop 1 s) (omega (arith, length-drop 1 s)) (rw (get_or-drop 1 s 0 0) letter)))
+    (then_read _ _ s 1 (Ok 1) (fixed_apart _ _) (fixed_byte 92 s (omega arith) back) (one_there is_escape_letter (drop 1 s) (omega (arith, length-drop 1 s)) (rw (get_or-drop 1 s 0 0) letter)))
     (plain_none s (λ long. rw back refl)).place (omega arith))
 
-pub inner_broken : (s : List ℕ) → 0 < length s → get_or s 0 0 ≡ 92 → (1 < length s → is_letter (get_or s 1 0) ≡ false) → Reads Inner s (Err 1)
+pub inner_broken : (s : List ℕ) → 0 < length s → get_or s 0 0 ≡ 92 → (1 < length s → is_escape_letter (get_or s 1 0) ≡ false) → Reads Inner s (Err 1)
 unfolding Inner Escape
 inner_broken s long back no_letter = reads_same _ _ s (Err 1) (swapped _ _) (swapped _ _)
     (broken_or _ _ s 1 0
-    (then_read _ _ s 1 (Err 0) (fixed_apart _ _) (fixed_byte 92 s long back) (one_none is_letter 48 refl (drop 1 s) (λ more. rw (get_or-drop 1 s 0 0) (no_letter (omega (arith, length-drop 1 s))))))
+    (then_read _ _ s 1 (Err 0) (fixed_apart _ _) (fixed_byte 92 s long back) (one_none is_escape_letter 48 refl (drop 1 s) (λ more. rw (get_or-drop 1 s 0 0) (no_letter (omega (arith, length-drop 1 s))))))
     (plain_none s (λ long. rw back refl)).place (omega arith))
 
 -- a run of plain bytes

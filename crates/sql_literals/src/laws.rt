@@ -1,7 +1,8 @@
 //! Laws of the definitions, for crates that stand on this one.
 ghost use Rattle.std.specs.Prelude.{ℕ, List, IsTrue, IfSome, ◌↔◌};
 ghost use Rattle.hex.specs.Hex.{IsBytes};
-ghost use Rattle.sql_cells.specs.Literal.{Cell, has_literal};
+ghost use Rattle.plain_data.specs.Cell.{Cell};
+ghost use Rattle.sql_cells.specs.Literal.{has_literal};
 ghost use Rattle.sql_cells.specs.Number.{is_number, Number};
 ghost use Rattle.sql_cells.specs.Spelling.{IsReadBack};
 ghost use Rattle.sql_cells.specs.declared.cell_kind.CellKind.{CellKind};

@@ -1,7 +1,8 @@
 //! Numbers without an exponent.
 ghost use Rattle.std.specs.Prelude.{◌≡◌, ◌≤◌, length, false};
 ghost use Rattle.std.specs.List.{prefix_len};
-ghost use Rattle.sql_cells.specs.Number.{is_digit, is_digits, is_fraction, is_unsigned_after, is_number};
+ghost use Rattle.plain_data.specs.Byte.{is_digit};
+ghost use Rattle.sql_cells.specs.Number.{is_digits, is_fraction, is_unsigned_after, is_number};
 
 // How many digits stand in front.
 #[inline]

@@ -40,7 +40,3 @@ later_number number = 44 ∷ signed_decimal number
 -- the text has this length, or more bytes than can be counted
 abbrev pub IsLength : Option ℕ → List ℕ → Type 0
 IsLength counted text = MatchOption counted (2 ^ 64 ≤ length text) (λ n. n ≡ length text)
-
--- where the text fits in the room, the call answers Ok and takes just the text's length of it
-abbrev pub TakesRoom : {X E : Type 0} → Result X E → ℕ → ℕ → List ℕ → Type 0
-TakesRoom result old new text = length text ≤ old → IsOk result × (new + length text ≡ old)

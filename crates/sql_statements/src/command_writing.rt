@@ -1,6 +1,7 @@
 //! How commands are written.
 ghost use Rattle.std.specs.Prelude.{◌≡◌, ◌++◌, OnOk, OnErr};
-ghost use Rattle.sql_statements.specs.Piece.{pieces_text, TakesRoom};
+ghost use Rattle.sql_literals.specs.Room.{TakesRoom};
+ghost use Rattle.sql_statements.specs.Piece.{pieces_text};
 ghost use Rattle.statement_forms.specs.Statement.{CommandHasText};
 ghost use Rattle.statement_forms.specs.Text.{command_text};
 

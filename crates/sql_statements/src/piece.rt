@@ -4,7 +4,8 @@ ghost use Rattle.std.specs.Fmt.{signed_decimal};
 ghost use Rattle.std.specs.List.{flat_map};
 ghost use Rattle.sql_cells.specs.Literal.{text_literal};
 ghost use Rattle.sql_cells.specs.Name.{quoted_name};
-ghost use Rattle.sql_statements.specs.Piece.{IsLength, TakesRoom, piece_text, pieces_text, later_name, later_number};
+ghost use Rattle.sql_literals.specs.Room.{TakesRoom};
+ghost use Rattle.sql_statements.specs.Piece.{IsLength, piece_text, pieces_text, later_name, later_number};
 ghost use Rattle.statement_forms.specs.Text.{by_key, by_keys, dotted, key_above, key_from, name_row, names, number_row, numbers, one_after, rows_from, wide_above, wide_up_to};
 
 use itoa::Buffer as Digits;

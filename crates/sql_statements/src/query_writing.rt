@@ -1,6 +1,7 @@
 //! How queries are written.
 ghost use Rattle.std.specs.Prelude.{◌≡◌, ◌++◌, OnOk, OnErr};
-ghost use Rattle.sql_statements.specs.Piece.{pieces_text, TakesRoom};
+ghost use Rattle.sql_literals.specs.Room.{TakesRoom};
+ghost use Rattle.sql_statements.specs.Piece.{pieces_text};
 ghost use Rattle.statement_forms.specs.Statement.{QueryHasText};
 ghost use Rattle.statement_forms.specs.Text.{query_text};
 

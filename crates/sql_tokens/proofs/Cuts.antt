@@ -3,7 +3,8 @@ use Rattle.std.proofs.Common.{◌≡◌, ℕ, suc, zero, ◌+◌, ◌-◌, ◌<�
 use Rattle.std.proofs.lemmas.List.{append_cancel_right, drop-drop, drop-take, take_all}
 use Rattle.std.proofs.lemmas.Bool.{cases_lt}
 use Rattle.std.specs.List.{prefix_len}
-use Rattle.object_forms.specs.Token.{Lexeme, Token, closing, comment_end, comment_lexeme, ends_comment, first_token, is_quote, is_white, is_word_byte, more, quoted_lexeme, slash_lexeme, tokens, word_lexeme}
+use Rattle.plain_data.specs.Byte.{is_white}
+use Rattle.object_forms.specs.Token.{Lexeme, Token, closing, comment_end, comment_lexeme, ends_comment, first_token, is_quote, is_word_byte, more, quoted_lexeme, slash_lexeme, tokens, word_lexeme}
 use Rattle.object_forms.specs.Token.{left_after}
 use Rattle.sql_tokens.specs.Left.{IsLeft}
 use Rattle.sql_tokens.proofs.Tokens.{EndsWithin, closing-within, comment_end-within, cond_by, first_token-fits, tokens-cons, tokens-nil}

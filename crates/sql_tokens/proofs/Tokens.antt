@@ -2,7 +2,8 @@
 use Rattle.std.proofs.Common.{◌≡◌, ℕ, suc, zero, ◌+◌, ◌-◌, ◌≤◌, ◌==◌, ◌&&◌, not, Bool, true, false, cond, List, [], ◌∷◌, length, drop, Option, Some, None, refl, sym, ap, subst, arith, length-drop}
 use Rattle.std.specs.List.{prefix_len}
 use Rattle.std.proofs.lemmas.List.Sums.{prefix_len-le-length}
-use Rattle.object_forms.specs.Token.{Lexeme, Token, closing, comment_end, comment_lexeme, ends_comment, first_token, is_quote, is_white, is_word_byte, more, quoted_lexeme, slash_lexeme, tokens, tokens_within, word_lexeme}
+use Rattle.plain_data.specs.Byte.{is_white}
+use Rattle.object_forms.specs.Token.{Lexeme, Token, closing, comment_end, comment_lexeme, ends_comment, first_token, is_quote, is_word_byte, more, quoted_lexeme, slash_lexeme, tokens, tokens_within, word_lexeme}
 use Rattle.object_forms.specs.Token.Token.{mark, white}
 
 -- what holds of either choice holds of the one that is made

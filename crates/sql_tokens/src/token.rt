@@ -3,8 +3,9 @@ ghost use Rattle.std.specs.Prelude.{◌≡◌, ◌<◌, ◌≤◌, ◌+◌, ◌^
 ghost use Rattle.std.specs.Char.{to_ascii_lowercase};
 ghost use Rattle.std.specs.List.{prefix_len};
 ghost use Rattle.std.specs.Str.{bytes_eq};
-ghost use Rattle.object_forms.specs.Token.{closing, comment_end, ends_comment, first_token, is_gap, is_mark, is_quote, is_white, is_word, is_word_byte, past_gaps, past_spaces, quoted_lexeme, slash_lexeme, tokens};
-ghost use Rattle.object_forms.specs.Head.{after, after_word};
+ghost use Rattle.plain_data.specs.Byte.{is_white};
+ghost use Rattle.object_forms.specs.Token.{closing, comment_end, ends_comment, first_token, is_gap, is_mark, is_quote, is_word, is_word_byte, past_gaps, past_spaces, quoted_lexeme, slash_lexeme, tokens};
+ghost use Rattle.object_forms.specs.Head.{after_token, after_word};
 ghost use Rattle.object_forms.specs.Shape.{depth_after};
 ghost use Rattle.sql_tokens.specs.Left.{IsLeft};
 ghost use Rattle.sql_tokens.specs.Reading.{IsFirstLexeme, closes, lexeme_of, past_first, quoted_step, token_of, tokens_of};
@@ -323,7 +324,7 @@ pub fn past_spaces(text: &[u8]) -> &[u8]
 
 /// What stands after a token at the front that is this byte; `None` where none is there.
 pub fn after_mark(byte: u8, text: &[u8]) -> Option<&[u8]>
-    ensures { tokens_of result ≡ after (is_mark byte) (tokens text.now) }
+    ensures { tokens_of result ≡ after_token (is_mark byte) (tokens text.now) }
 {
     let (token, rest) = next_token(text)?;
     token.is_mark(byte).then_some(rest)
@@ -332,7 +333,7 @@ pub fn after_mark(byte: u8, text: &[u8]) -> Option<&[u8]>
 /// What stands after a token at the front that is this word, which is given in lower case and
 /// stands in any case; `None` where it isn't there.
 pub fn after_front_word<'a>(lower: &[u8], text: &'a [u8]) -> Option<&'a [u8]>
-    ensures after { tokens_of result ≡ after (is_word lower.now) (tokens text.now) }
+    ensures after { tokens_of result ≡ after_token (is_word lower.now) (tokens text.now) }
     ensures left { IfSome result (λ rest. rest.now ≡ past_first text.now) }
 {
     let (token, rest) = next_token(text)?;

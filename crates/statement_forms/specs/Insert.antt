@@ -34,19 +34,22 @@ NextLiteral = Then (Fixed (codes ",")) Literal
 
 -- one more than so many literals with commas between them, in parentheses
 unfoldable pub Row : ℕ → Language
-Row more = Then (Fixed (codes "(")) (Then Literal (Then (Times NextLiteral more) (Fixed (codes ")"))))
+Row more = Then (Fixed (codes "("))
+    (Then Literal (Then (Times NextLiteral more) (Fixed (codes ")"))))
 
 -- a comma, a line feed and a row
-unfoldable pub NextRow : ℕ → Language
-NextRow more = Then (Fixed (codes ",\n")) (Row more)
+unfoldable pub FurtherRow : ℕ → Language
+FurtherRow more = Then (Fixed (codes ",\n")) (Row more)
 
 -- rows with a comma and a line feed between them, at least one
 unfoldable pub Rows : ℕ → Language
-Rows more = Then (Row more) (Many (NextRow more))
+Rows more = Then (Row more) (Many (FurtherRow more))
 
 -- the columns in parentheses, and after them rows of as many literals as there are columns
 unfoldable pub Filled : Language
-Filled text = (more : ℕ) × Then (Fixed (codes " (")) (Then (NamesAnd more) (Then (Fixed (codes ") VALUES\n")) (Rows more))) text
+Filled text =
+    (more : ℕ) × Then (Fixed (codes " ("))
+    (Then (NamesAnd more) (Then (Fixed (codes ") VALUES\n")) (Rows more))) text
 
 -- an INSERT into a table that isn't said
 unfoldable pub AnyInsert : Language
@@ -60,8 +63,9 @@ InsertInto table = Then (Fixed (codes "INSERT INTO " ++ quoted_name table)) Fill
 pub record HasRows (table text columns : List ℕ) (rows : ℕ) : Type 0 where
   pub more : ℕ
   pub body : List ℕ
-  pub text_is : text ≡ codes "INSERT INTO " ++ quoted_name table ++ codes " (" ++ columns ++ codes ") VALUES\n" ++ body
+  pub text_is : text ≡ codes "INSERT INTO " ++ quoted_name table ++ codes " (" ++ columns
+      ++ codes ") VALUES\n" ++ body
   pub named : NamesAnd more columns
   pub others : ℕ
-  pub filled : Then (Row more) (Times (NextRow more) others) body
+  pub filled : Then (Row more) (Times (FurtherRow more) others) body
   pub count : rows ≡ others + 1

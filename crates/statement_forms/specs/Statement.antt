@@ -88,9 +88,12 @@ QueryHasText (RowsBetween columns schema table key above up_to) = 0 < length col
 QueryHasText (WideKey keys schema table skipped) = IsWide keys
 QueryHasText (WideKeyAbove keys schema table above skipped) = IsBounded keys above
 QueryHasText (RowsByWideKey columns schema table keys) = (0 < length columns) × IsWide keys
-QueryHasText (RowsAboveWide columns schema table keys above) = (0 < length columns) × IsBounded keys above
-QueryHasText (RowsUpToWide columns schema table keys up_to) = (0 < length columns) × IsBounded keys up_to
-QueryHasText (RowsBetweenWide columns schema table keys above up_to) = (0 < length columns) × IsBounded keys above × IsBounded keys up_to
+QueryHasText (RowsAboveWide columns schema table keys above) =
+    (0 < length columns) × IsBounded keys above
+QueryHasText (RowsUpToWide columns schema table keys up_to) =
+    (0 < length columns) × IsBounded keys up_to
+QueryHasText (RowsBetweenWide columns schema table keys above up_to) =
+    (0 < length columns) × IsBounded keys above × IsBounded keys up_to
 QueryHasText ProgressDump = ⊤
 QueryHasText ProgressFiles = ⊤
 
@@ -125,7 +128,8 @@ InRange (WideKeyAbove keys schema table above skipped) = All IsI128 above × (sk
 InRange (RowsByWideKey columns schema table keys) = ⊤
 InRange (RowsAboveWide columns schema table keys above) = All IsI128 above
 InRange (RowsUpToWide columns schema table keys up_to) = All IsI128 up_to
-InRange (RowsBetweenWide columns schema table keys above up_to) = All IsI128 above × All IsI128 up_to
+InRange (RowsBetweenWide columns schema table keys above up_to) =
+    All IsI128 above × All IsI128 up_to
 InRange ProgressDump = ⊤
 InRange ProgressFiles = ⊤
 
@@ -195,9 +199,9 @@ query_row ProgressDump = 57
 query_row ProgressFiles = 58
 
 -- the row of a statement in that order
-abbrev pub row_of : Statement → ℕ
-row_of (SomeCommand command) = command_row command
-row_of (SomeQuery query) = query_row query
+abbrev pub list_row : Statement → ℕ
+list_row (SomeCommand command) = command_row command
+list_row (SomeQuery query) = query_row query
 
 -- this is the text of the statement
 abbrev pub IsTextOf : Statement → List ℕ → Type 0
@@ -211,4 +215,5 @@ Statements text = (statement : Statement) × IsTextOf statement text
 -- The text is that of the statement, and every other statement of that text stands in an earlier row.
 pub record IsReadAs (text : List ℕ) (statement : Statement) : Type 0 where
   pub text_of : IsTextOf statement text
-  pub latest : (other : Statement) → IsTextOf other text → (row_of other < row_of statement) ⊎ (other ≡ statement)
+  pub latest : (other : Statement) → IsTextOf other text → (list_row other < list_row statement)
+      ⊎ (other ≡ statement)

@@ -26,8 +26,10 @@ command_text ForeignKeyChecksOff = codes "SET FOREIGN_KEY_CHECKS=0"
 command_text TimeZoneUtc = codes "SET TIME_ZONE='+00:00'"
 command_text BinaryLogOff = codes "SET SESSION sql_log_bin=0"
 command_text (SqlMode value) = codes "SET SESSION sql_mode=" ++ text_literal value
-command_text (CharacterSetClient value) = codes "SET SESSION character_set_client=" ++ text_literal value
-command_text (CollationConnection value) = codes "SET SESSION collation_connection=" ++ text_literal value
+command_text (CharacterSetClient value) =
+    codes "SET SESSION character_set_client=" ++ text_literal value
+command_text (CollationConnection value) =
+    codes "SET SESSION collation_connection=" ++ text_literal value
 command_text RepeatableRead = codes "SET SESSION TRANSACTION ISOLATION LEVEL REPEATABLE READ"
 command_text (TimeZone value) = codes "SET TIME_ZONE=" ++ text_literal value
 command_text LockInstance = codes "LOCK INSTANCE FOR BACKUP"
@@ -42,14 +44,20 @@ command_text (Use schema) = codes "USE " ++ quoted_name schema
 command_text (Create text) = text
 command_text CreateProgress = codes "CREATE DATABASE `myloader_progress`"
 command_text CreateProgressFiles = codes "CREATE TABLE `myloader_progress`.`files` (`name` varbinary(255) NOT NULL, PRIMARY KEY (`name`)) ENGINE=InnoDB"
-command_text CreateProgressDump = codes "CREATE TABLE `myloader_progress`.`dump` (`digest` char(40) NOT NULL) ENGINE=InnoDB"
+command_text CreateProgressDump =
+    codes "CREATE TABLE `myloader_progress`.`dump` (`digest` char(40) NOT NULL) ENGINE=InnoDB"
 command_text (Insert text) = text
-command_text (InsertProgressFile name) = codes "INSERT INTO `myloader_progress`.`files` (`name`) VALUES (" ++ text_literal name ++ codes ")"
-command_text (InsertProgressDump digest) = codes "INSERT INTO `myloader_progress`.`dump` (`digest`) VALUES (" ++ text_literal digest ++ codes ")"
+command_text (InsertProgressFile name) =
+    codes "INSERT INTO `myloader_progress`.`files` (`name`) VALUES (" ++ text_literal name
+    ++ codes ")"
+command_text (InsertProgressDump digest) =
+    codes "INSERT INTO `myloader_progress`.`dump` (`digest`) VALUES (" ++ text_literal digest
+    ++ codes ")"
 
 -- what a query for rows begins with: the columns and the table
 abbrev pub rows_from : List (List ℕ) → List ℕ → List ℕ → List ℕ
-rows_from columns schema table = codes "SELECT " ++ names columns ++ codes " FROM " ++ dotted schema table
+rows_from columns schema table =
+    codes "SELECT " ++ names columns ++ codes " FROM " ++ dotted schema table
 
 -- in the order of a key of one column
 abbrev pub by_key : List ℕ → List ℕ
@@ -57,7 +65,8 @@ by_key key = codes " ORDER BY " ++ quoted_name key
 
 -- what a query for a key begins with
 abbrev pub key_from : List ℕ → List ℕ → List ℕ → List ℕ
-key_from key schema table = codes "SELECT " ++ quoted_name key ++ codes " FROM " ++ dotted schema table
+key_from key schema table =
+    codes "SELECT " ++ quoted_name key ++ codes " FROM " ++ dotted schema table
 
 -- the next key after so many
 abbrev pub one_after : ℕ → List ℕ
@@ -96,13 +105,22 @@ unfoldable pub query_text : Query → List ℕ
 query_text MasterStatus = codes "SHOW MASTER STATUS"
 query_text BinaryLogStatus = codes "SHOW BINARY LOG STATUS"
 query_text Schemas = codes "SELECT SCHEMA_NAME FROM information_schema.SCHEMATA"
-query_text (Tables schema) = codes "SELECT TABLE_NAME,TABLE_TYPE,ENGINE FROM information_schema.TABLES WHERE TABLE_SCHEMA=" ++ text_literal schema
+query_text (Tables schema) =
+    codes "SELECT TABLE_NAME,TABLE_TYPE,ENGINE FROM information_schema.TABLES WHERE TABLE_SCHEMA="
+    ++ text_literal schema
 query_text (Columns schema table) = codes "SELECT COLUMN_NAME,DATA_TYPE,COLUMN_TYPE,EXTRA FROM information_schema.COLUMNS WHERE TABLE_SCHEMA=" ++ text_literal schema ++ codes " AND TABLE_NAME=" ++ text_literal table ++ codes " ORDER BY ORDINAL_POSITION"
-query_text (PrimaryKey schema table) = codes "SELECT COLUMN_NAME FROM information_schema.STATISTICS WHERE TABLE_SCHEMA=" ++ text_literal schema ++ codes " AND TABLE_NAME=" ++ text_literal table ++ codes " AND INDEX_NAME='PRIMARY' ORDER BY SEQ_IN_INDEX"
+query_text (PrimaryKey schema table) =
+    codes "SELECT COLUMN_NAME FROM information_schema.STATISTICS WHERE TABLE_SCHEMA="
+    ++ text_literal schema ++ codes " AND TABLE_NAME=" ++ text_literal table
+    ++ codes " AND INDEX_NAME='PRIMARY' ORDER BY SEQ_IN_INDEX"
 query_text (Triggers schema) = codes "SELECT TRIGGER_NAME,EVENT_OBJECT_TABLE,ACTION_ORDER FROM information_schema.TRIGGERS WHERE TRIGGER_SCHEMA=" ++ text_literal schema
-query_text (Routines schema) = codes "SELECT ROUTINE_NAME,ROUTINE_TYPE FROM information_schema.ROUTINES WHERE ROUTINE_SCHEMA=" ++ text_literal schema
+query_text (Routines schema) =
+    codes "SELECT ROUTINE_NAME,ROUTINE_TYPE FROM information_schema.ROUTINES WHERE ROUTINE_SCHEMA="
+    ++ text_literal schema
 query_text (ViewNeeds schema) = codes "SELECT VIEW_NAME,TABLE_SCHEMA,TABLE_NAME FROM information_schema.VIEW_TABLE_USAGE WHERE VIEW_SCHEMA=" ++ text_literal schema
-query_text (Events schema) = codes "SELECT EVENT_NAME FROM information_schema.EVENTS WHERE EVENT_SCHEMA=" ++ text_literal schema
+query_text (Events schema) =
+    codes "SELECT EVENT_NAME FROM information_schema.EVENTS WHERE EVENT_SCHEMA="
+    ++ text_literal schema
 query_text (CreateDatabase schema) = codes "SHOW CREATE DATABASE " ++ quoted_name schema
 query_text (CreateTable schema name) = codes "SHOW CREATE TABLE " ++ dotted schema name
 query_text (CreateView schema name) = codes "SHOW CREATE VIEW " ++ dotted schema name
@@ -110,18 +128,33 @@ query_text (CreateProcedure schema name) = codes "SHOW CREATE PROCEDURE " ++ dot
 query_text (CreateFunction schema name) = codes "SHOW CREATE FUNCTION " ++ dotted schema name
 query_text (CreateTrigger schema name) = codes "SHOW CREATE TRIGGER " ++ dotted schema name
 query_text (CreateEvent schema name) = codes "SHOW CREATE EVENT " ++ dotted schema name
-query_text (Key key schema table skipped) = key_from key schema table ++ by_key key ++ one_after skipped
-query_text (KeyAbove key schema table above skipped) = key_from key schema table ++ key_above key above ++ by_key key ++ one_after skipped
+query_text (Key key schema table skipped) =
+    key_from key schema table ++ by_key key ++ one_after skipped
+query_text (KeyAbove key schema table above skipped) =
+    key_from key schema table ++ key_above key above ++ by_key key ++ one_after skipped
 query_text (Rows columns schema table) = rows_from columns schema table
 query_text (RowsByKey columns schema table key) = rows_from columns schema table ++ by_key key
-query_text (RowsAbove columns schema table key above) = rows_from columns schema table ++ key_above key above ++ by_key key
-query_text (RowsUpTo columns schema table key up_to) = rows_from columns schema table ++ codes " WHERE " ++ quoted_name key ++ codes " <= " ++ signed_decimal up_to ++ by_key key
-query_text (RowsBetween columns schema table key above up_to) = rows_from columns schema table ++ key_above key above ++ codes " AND " ++ quoted_name key ++ codes " <= " ++ signed_decimal up_to ++ by_key key
-query_text (WideKey keys schema table skipped) = rows_from keys schema table ++ by_keys keys ++ one_after skipped
-query_text (WideKeyAbove keys schema table above skipped) = rows_from keys schema table ++ codes " WHERE " ++ wide_above keys above ++ by_keys keys ++ one_after skipped
-query_text (RowsByWideKey columns schema table keys) = rows_from columns schema table ++ by_keys keys
-query_text (RowsAboveWide columns schema table keys above) = rows_from columns schema table ++ codes " WHERE " ++ wide_above keys above ++ by_keys keys
-query_text (RowsUpToWide columns schema table keys up_to) = rows_from columns schema table ++ codes " WHERE " ++ wide_up_to keys up_to ++ by_keys keys
-query_text (RowsBetweenWide columns schema table keys above up_to) = rows_from columns schema table ++ codes " WHERE " ++ wide_above keys above ++ codes " AND " ++ wide_up_to keys up_to ++ by_keys keys
+query_text (RowsAbove columns schema table key above) =
+    rows_from columns schema table ++ key_above key above ++ by_key key
+query_text (RowsUpTo columns schema table key up_to) =
+    rows_from columns schema table ++ codes " WHERE " ++ quoted_name key ++ codes " <= "
+    ++ signed_decimal up_to ++ by_key key
+query_text (RowsBetween columns schema table key above up_to) =
+    rows_from columns schema table ++ key_above key above ++ codes " AND " ++ quoted_name key
+    ++ codes " <= " ++ signed_decimal up_to ++ by_key key
+query_text (WideKey keys schema table skipped) =
+    rows_from keys schema table ++ by_keys keys ++ one_after skipped
+query_text (WideKeyAbove keys schema table above skipped) =
+    rows_from keys schema table ++ codes " WHERE " ++ wide_above keys above ++ by_keys keys
+    ++ one_after skipped
+query_text (RowsByWideKey columns schema table keys) =
+    rows_from columns schema table ++ by_keys keys
+query_text (RowsAboveWide columns schema table keys above) =
+    rows_from columns schema table ++ codes " WHERE " ++ wide_above keys above ++ by_keys keys
+query_text (RowsUpToWide columns schema table keys up_to) =
+    rows_from columns schema table ++ codes " WHERE " ++ wide_up_to keys up_to ++ by_keys keys
+query_text (RowsBetweenWide columns schema table keys above up_to) =
+    rows_from columns schema table ++ codes " WHERE " ++ wide_above keys above ++ codes " AND "
+    ++ wide_up_to keys up_to ++ by_keys keys
 query_text ProgressDump = codes "SELECT `digest` FROM `myloader_progress`.`dump`"
 query_text ProgressFiles = codes "SELECT `name` FROM `myloader_progress`.`files`"

@@ -14,11 +14,11 @@ use Rattle.grammar.proofs.Rows.{Apart, NextApart, then_broken}
 use Rattle.grammar.proofs.Sets.{Starts, Lengthens, apart_by, apart_free, next_apart_by, starts_fixed, starts_then, starts_row, starts_either, starts_times, starts_wider, lengthens_wider, lengthens_fixed, lengthens_then, lengthens_or, lengthens_times}
 use Rattle.grammar.proofs.Wholes.{refused_broken, refused_row}
 use Rattle.sql_cells.specs.Name.{quoted_name, name_byte}
-use Rattle.sql_cells.specs.Number.{is_digit}
+use Rattle.plain_data.specs.Byte.{is_digit}
 use Rattle.sql_cells.specs.Spelling.{Literal}
 use Rattle.sql_literals.proofs.LiteralReads.{IsLiteralMore, no_empty_literal, begins_literal, lengthens_literal}
 use Rattle.sql_literals.proofs.NumberReads.{IsDigit}
-use Rattle.statement_forms.specs.Insert.{QuotedName, NextName, NamesAnd, NextLiteral, Row, NextRow, Rows, Filled, InsertInto, HasRows}
+use Rattle.statement_forms.specs.Insert.{QuotedName, NextName, NamesAnd, NextLiteral, Row, FurtherRow, Rows, Filled, InsertInto, HasRows}
 use Rattle.statement_reading.specs.InsertReading.{RowRest, RowInside, Values, IsRows, HasValues, IsFilled}
 use Rattle.statement_reading.specs.Parts.{Names}
 use Rattle.statement_reading.proofs.Divisions.{one_cut_apart}
@@ -105,18 +105,18 @@ lengthens_row n P = lengthens_then _ _ P (fixed_apart _ _) (no_empty_then _ _ no
   lengthens_inside : (n : ℕ) (P : ℕ → Type 0) → Lengthens (Then Literal (Then (Times NextLiteral n) (Fixed (codes ")")))) P
   lengthens_inside n P = lengthens_then _ _ P (apart_by _ _ _ _ lengthens_literal (starts_rest n) not_after) (no_empty_after _ _ (no_empty_fixed 41 [])) (lengthens_close n P)
 
-pub no_empty_next_row : (n : ℕ) → ¬ NextRow n []
-unfolding NextRow
+pub no_empty_next_row : (n : ℕ) → ¬ FurtherRow n []
+unfolding FurtherRow
 no_empty_next_row n = no_empty_then _ _ (no_empty_fixed 44 (10 ∷ []))
 
-lengthens_next_row : (n : ℕ) (P : ℕ → Type 0) → Lengthens (NextRow n) P
-unfolding NextRow
+lengthens_next_row : (n : ℕ) (P : ℕ → Type 0) → Lengthens (FurtherRow n) P
+unfolding FurtherRow
 lengthens_next_row n P = lengthens_then _ _ P (fixed_apart _ _) (no_empty_row n) (lengthens_row n P)
 
-pub apart_next_row : (n : ℕ) → Apart (NextRow n) (Many (NextRow n))
-apart_next_row n = apart_many (NextRow n) (apart_free _ _ (lengthens_next_row n _)) (no_empty_next_row n)
+pub apart_next_row : (n : ℕ) → Apart (FurtherRow n) (Many (FurtherRow n))
+apart_next_row n = apart_many (FurtherRow n) (apart_free _ _ (lengthens_next_row n _)) (no_empty_next_row n)
 
-pub apart_first_row : (n : ℕ) → Apart (Row n) (Many (NextRow n))
+pub apart_first_row : (n : ℕ) → Apart (Row n) (Many (FurtherRow n))
 apart_first_row n = apart_free _ _ (lengthens_row n _)
 
 pub begins_rows : (n : ℕ) → Begins (Rows n) []
@@ -162,8 +162,8 @@ pub names_join : (s : List ℕ) (p k n : ℕ) → Reads QuotedName s (Ok p) → 
 unfolding NamesAnd
 names_join s p k n first others = row_join QuotedName (Times NextName n) s p k first others
 
-pub rows_join : (more : ℕ) (s : List ℕ) (p k n : ℕ) → Reads (Row more) s (Ok p) → Times (NextRow more) n (take k (take (length s - p) (drop p s))) → IsRows more (n + 1) (take (p + k) s)
-rows_join more s p k n first others = record { others = n; filled = row_join (Row more) (Times (NextRow more) n) s p k first others; count_is = refl }
+pub rows_join : (more : ℕ) (s : List ℕ) (p k n : ℕ) → Reads (Row more) s (Ok p) → Times (FurtherRow more) n (take k (take (length s - p) (drop p s))) → IsRows more (n + 1) (take (p + k) s)
+rows_join more s p k n first others = record { others = n; filled = row_join (Row more) (Times (FurtherRow more) n) s p k first others; count_is = refl }
 
 pub values_join : (more count : ℕ) (s : List ℕ) (p k : ℕ) → Reads (Fixed (codes ") VALUES\n")) s (Ok p) → IsRows more count (take k (take (length s - p) (drop p s))) → HasValues more count (take (p + k) s)
 unfolding Fixed

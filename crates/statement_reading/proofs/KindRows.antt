@@ -4,7 +4,7 @@ use Rattle.object_forms.specs.Head.{HasHead}
 use Rattle.sql_cells.specs.Literal.{text_literal}
 use Rattle.sql_cells.specs.Name.{quoted_name}
 use Rattle.statement_forms.specs.Insert.{AnyInsert}
-use Rattle.statement_forms.specs.Statement.{IsTextOf, IsDigest, row_of}
+use Rattle.statement_forms.specs.Statement.{IsTextOf, IsDigest, list_row}
 use Rattle.statement_forms.specs.Text.{dotted, command_text, query_text}
 use Rattle.statement_forms.specs.declared.command.Command.TheVariants.{SetUp, NamesUtf8mb4, NamesBinary, ForeignKeyChecksOff, TimeZoneUtc, BinaryLogOff, SqlMode, CharacterSetClient, CollationConnection, RepeatableRead, TimeZone, LockInstance, FlushTables, UnlockTables, UnlockInstance, StartSnapshot, Start, Commit, Rollback, Use, Create, CreateProgress, CreateProgressFiles, CreateProgressDump, Insert, InsertProgressFile, InsertProgressDump}
 use Rattle.statement_forms.specs.declared.query.Query.TheVariants.{MasterStatus, BinaryLogStatus, Schemas, Tables, Columns, PrimaryKey, Triggers, Routines, ViewNeeds, Events, CreateDatabase, CreateTable, CreateView, CreateProcedure, CreateFunction, CreateTrigger, CreateEvent, ProgressDump, ProgressFiles}
@@ -15,7 +15,7 @@ use Rattle.statement_reading.proofs.RowValues.{values_of}
 use Rattle.statement_reading.proofs.Rows.{Row, made_of}
 use Rattle.statement_reading.proofs.TextValues.{digest_spelled}
 
-fixed_row : (n : ℕ) (s : Statement) (w : List ℕ) → ((u : Statement) → row_of u ≡ n → u ≡ s) → row_of s ≡ n → ((t : List ℕ) → IsTextOf s t → t ≡ w) → ((t : List ℕ) → t ≡ w → IsTextOf s t) → Row n (λ (nothing : Unit {0}). s) (λ nothing t. t ≡ w)
+fixed_row : (n : ℕ) (s : Statement) (w : List ℕ) → ((u : Statement) → list_row u ≡ n → u ≡ s) → list_row s ≡ n → ((t : List ℕ) → IsTextOf s t → t ≡ w) → ((t : List ℕ) → t ≡ w → IsTextOf s t) → Row n (λ (nothing : Unit {0}). s) (λ nothing t. t ≡ w)
 fixed_row n s w all row to from = record { all = λ u e. (tt, all u e); row = λ nothing. row; to = λ nothing t h. to t h; from = λ nothing t h. from t h }
 
 pub set_up_row : Row 0 (λ (nothing : Unit {0}). SomeCommand SetUp) (λ nothing t. t ≡ codes "SET SESSION autocommit=1,sql_mode='NO_AUTO_VALUE_ON_ZERO',time_zone='+00:00',wait_timeout=2147483,sql_quote_show_create=1,foreign_key_checks=0")

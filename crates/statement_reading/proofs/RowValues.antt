@@ -1,6 +1,6 @@
 -- A statement by its row and its values.
 use Rattle.std.proofs.Common.{◌≡◌, ℕ, ◌<◌, arith, List, [], ◌∷◌, get_or, refl, ℤ, pos}
-use Rattle.statement_forms.specs.Statement.{row_of}
+use Rattle.statement_forms.specs.Statement.{list_row}
 use Rattle.statement_forms.specs.declared.command.Command.TheVariants.{SetUp, NamesUtf8mb4, NamesBinary, ForeignKeyChecksOff, TimeZoneUtc, BinaryLogOff, SqlMode, CharacterSetClient, CollationConnection, RepeatableRead, TimeZone, LockInstance, FlushTables, UnlockTables, UnlockInstance, StartSnapshot, Start, Commit, Rollback, Use, Create, CreateProgress, CreateProgressFiles, CreateProgressDump, Insert, InsertProgressFile, InsertProgressDump}
 use Rattle.statement_forms.specs.declared.query.Query.TheVariants.{MasterStatus, BinaryLogStatus, Schemas, Tables, Columns, PrimaryKey, Triggers, Routines, ViewNeeds, Events, CreateDatabase, CreateTable, CreateView, CreateProcedure, CreateFunction, CreateTrigger, CreateEvent, Key, KeyAbove, Rows, RowsByKey, RowsAbove, RowsUpTo, RowsBetween, WideKey, WideKeyAbove, RowsByWideKey, RowsAboveWide, RowsUpToWide, RowsBetweenWide, ProgressDump, ProgressFiles}
 use Rattle.statement_forms.specs.declared.statement.Statement.{Statement}
@@ -92,7 +92,7 @@ abbrev pub statement_at : ℕ → Values → Statement
 statement_at row values = get_or builders row (λ v. SomeCommand SetUp) values
 
 -- A statement is that of its values in its row.
-pub rebuilt : (s : Statement) → statement_at (row_of s) (values_of s) ≡ s
+pub rebuilt : (s : Statement) → statement_at (list_row s) (values_of s) ≡ s
 rebuilt (SomeCommand SetUp) = refl
 rebuilt (SomeCommand NamesUtf8mb4) = refl
 rebuilt (SomeCommand NamesBinary) = refl
@@ -154,7 +154,7 @@ rebuilt (SomeQuery ProgressDump) = refl
 rebuilt (SomeQuery ProgressFiles) = refl
 
 -- There are 59 rows.
-pub below_59 : (s : Statement) → row_of s < 59
+pub below_59 : (s : Statement) → list_row s < 59
 below_59 (SomeCommand SetUp) = omega arith
 below_59 (SomeCommand NamesUtf8mb4) = omega arith
 below_59 (SomeCommand NamesBinary) = omega arith

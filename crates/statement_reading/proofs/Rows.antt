@@ -4,7 +4,7 @@ use Rattle.std.proofs.lemmas.Bool.{cases_lt}
 use Rattle.grammar.specs.Language.{Language, Refused, Or}
 use Rattle.grammar.proofs.Wholes.{refused_or}
 use Rattle.statement_reading.specs.Readings.{TextOfSome, IsOnly, IsRead, InRow, FromRow}
-use Rattle.statement_forms.specs.Statement.{row_of, IsTextOf, Statements, IsReadAs}
+use Rattle.statement_forms.specs.Statement.{list_row, IsTextOf, Statements, IsReadAs}
 use Rattle.statement_reading.specs.declared.fault.StatementFault.{StatementFault}
 use Rattle.statement_reading.specs.declared.fault.StatementFault.TheVariants.{BadStatement, OutOfMemory}
 use Rattle.statement_forms.specs.declared.statement.Statement.{Statement}
@@ -13,13 +13,13 @@ use Rattle.statement_reading.proofs.RowValues.{values_of, statement_at, rebuilt,
 
 -- the statements of a row are made of values, whose texts are theirs
 pub record Row {V : Type 0} (n : ℕ) (make : V → Statement) (F : V → Language) : Type 0 where
-  pub all : (s : Statement) → row_of s ≡ n → (v : V) × (s ≡ make v)
-  pub row : (v : V) → row_of (make v) ≡ n
+  pub all : (s : Statement) → list_row s ≡ n → (v : V) × (s ≡ make v)
+  pub row : (v : V) → list_row (make v) ≡ n
   pub to : (v : V) (t : List ℕ) → IsTextOf (make v) t → F v t
   pub from : (v : V) (t : List ℕ) → F v t → IsTextOf (make v) t
 
 -- Each statement of a row is made of its values.
-pub made_of : (n : ℕ) (s : Statement) → row_of s ≡ n → s ≡ statement_at n (values_of s)
+pub made_of : (n : ℕ) (s : Statement) → list_row s ≡ n → s ≡ statement_at n (values_of s)
 made_of n s e = sym (rebuilt s) ∙ ap (λ k. statement_at k (values_of s)) e
 
 module _ {V : Type 0} {n : ℕ} {make : V → Statement} {F : V → Language} (row : Row n make F) where
@@ -60,15 +60,15 @@ from_of n t (inr (s, (e, text))) = (s, (omega arith, text))
 
 of_from : (n : ℕ) (t : List ℕ) → TextOfSome (FromRow n) t → Or (TextOfSome (FromRow (n + 1))) (TextOfSome (InRow n)) t
 unfolding Or TextOfSome
-of_from n t (s, (low, text)) = elim (at_or_above n (row_of s) low) [ inl h ↦ inl (s, (h, text)) | inr e ↦ inr (s, (e, text)) ]
+of_from n t (s, (low, text)) = elim (at_or_above n (list_row s) low) [ inl h ↦ inl (s, (h, text)) | inr e ↦ inr (s, (e, text)) ]
 
 -- the rows from n on have refused the text, the greatest place being this one: no row yet, or some
 pub record Passed (n : ℕ) (text : List ℕ) (place : ℕ) : Type 0 where
-  pub none_has : (s : Statement) → n ≤ row_of s → IsTextOf s text → ⊥
+  pub none_has : (s : Statement) → n ≤ list_row s → IsTextOf s text → ⊥
   pub refused : (n ≡ 59) × (place ≡ 0) ⊎ Refused (TextOfSome (FromRow n)) text place
 
 -- The row of a statement is one of 59.
-pub row_below : (s : Statement) → row_of s < 59
+pub row_below : (s : Statement) → list_row s < 59
 row_below s = below_59 s
 
 pub passed_start : (text : List ℕ) → Passed 59 text 0
@@ -87,7 +87,7 @@ both_refused n text p q above here = refused_same (Or (TextOfSome (FromRow (n + 
 pub passed_more : (n : ℕ) (text : List ℕ) (p q : ℕ) → Passed (n + 1) text p → Refused (TextOfSome (InRow n)) text q → Passed n text (max p q)
 unfolding TextOfSome
 passed_more n text p q passed refused = record {
-  none_has = λ s low there. elim (at_or_above n (row_of s) low) [ inl h ↦ passed.none_has s h there | inr e ↦ refused.no_text (s, (e, there)) ];
+  none_has = λ s low there. elim (at_or_above n (list_row s) low) [ inl h ↦ passed.none_has s h there | inr e ↦ refused.no_text (s, (e, there)) ];
   refused = elim passed.refused [
     | inl (last, zero) ↦ inr (subst (Refused (TextOfSome (FromRow n)) text) (omega arith) (first_refused n text q last refused))
     | inr above ↦ inr (both_refused n text p q above refused)
@@ -98,9 +98,9 @@ passed_more n text p q passed refused = record {
 pub passed_read : (n : ℕ) (text : List ℕ) (p : ℕ) (s : Statement) → Passed (n + 1) text p → IsOnly (InRow n) text s → IsReadAs text s
 passed_read n text p s passed only = record {
   text_of = only.text_of.1;
-  latest = λ other there. elim (cases_lt (row_of other) n) [
+  latest = λ other there. elim (cases_lt (list_row other) n) [
     | inl less ↦ inl (omega (arith, only.text_of.0))
-    | inr more ↦ elim (at_or_above n (row_of other) more) [ inl h ↦ absurd (passed.none_has other h there) | inr e ↦ inr (only.only other (e, there)) ]
+    | inr more ↦ elim (at_or_above n (list_row other) more) [ inl h ↦ absurd (passed.none_has other h there) | inr e ↦ inr (only.only other (e, there)) ]
   ];
 }
 

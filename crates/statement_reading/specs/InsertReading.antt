@@ -2,7 +2,7 @@
 use Rattle.std.specs.Prelude.{◌≡◌, ℕ, ◌+◌, ◌-◌, ◌≤◌, List, ◌++◌, codes, length, take, drop, Result, Ok, Err}
 use Rattle.grammar.specs.Language.{Language, Fixed, Then, Times}
 use Rattle.sql_cells.specs.Spelling.{Literal}
-use Rattle.statement_forms.specs.Insert.{NamesAnd, NextLiteral, Row, NextRow, Rows}
+use Rattle.statement_forms.specs.Insert.{NamesAnd, NextLiteral, Row, FurtherRow, Rows}
 use Rattle.statement_reading.specs.declared.insert.FilledSize.{FilledSize}
 use Rattle.statement_reading.specs.declared.insert.Run.{Run}
 
@@ -29,13 +29,13 @@ filled_size (Ok found) = Ok found.size
 filled_size (Err place) = Err place
 
 -- the front of the run's size is so many texts of the language one after another, no more of them than bytes
-abbrev pub IsRun : Language → Run → List ℕ → Type 0
-IsRun texts run bytes = Times texts run.count (take run.size bytes) × (run.count ≤ run.size)
+abbrev pub IsRunOf : Language → Run → List ℕ → Type 0
+IsRunOf texts run bytes = Times texts run.count (take run.size bytes) × (run.count ≤ run.size)
 
 -- so many rows of one more than so many literals
 pub record IsRows (more count : ℕ) (text : List ℕ) : Type 0 where
   pub others : ℕ
-  pub filled : Then (Row more) (Times (NextRow more) others) text
+  pub filled : Then (Row more) (Times (FurtherRow more) others) text
   pub count_is : count ≡ others + 1
 
 -- the same after the words

@@ -55,7 +55,8 @@ is_own byte = if is_special byte then false else true
 
 -- the letters that are written after a backslash: 0 n r Z " ' \
 abbrev pub is_written_letter : ℕ → Bool
-is_written_letter byte = byte == 48 || byte == 110 || byte == 114 || byte == 90 || byte == 34 || byte == 39 || byte == 92
+is_written_letter byte =
+    byte == 48 || byte == 110 || byte == 114 || byte == 90 || byte == 34 || byte == 39 || byte == 92
 
 -- a backslash and the letter for a special byte
 unfoldable pub WrittenEscape : Language

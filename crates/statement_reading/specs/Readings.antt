@@ -4,7 +4,7 @@ use Rattle.std.specs.List.{flat_map, list_any}
 use Rattle.grammar.specs.Language.{Language, Refused}
 use Rattle.sql_cells.specs.Literal.{text_literal}
 use Rattle.sql_cells.specs.Name.{name_byte, quoted_name}
-use Rattle.statement_forms.specs.Statement.{IsTextOf, row_of}
+use Rattle.statement_forms.specs.Statement.{IsTextOf, list_row}
 use Rattle.statement_forms.specs.Text.{names}
 use Rattle.statement_reading.specs.declared.fault.StatementFault.{StatementFault}
 use Rattle.statement_reading.specs.declared.fault.StatementFault.TheVariants.{BadStatement, OutOfMemory}
@@ -36,7 +36,8 @@ IsPath path schema name = (quoted_name path.schema ≡ schema) × (quoted_name p
 
 -- the schema and the name for which these text literals are written
 abbrev pub IsPathOfTexts : Path → List ℕ → List ℕ → Type 0
-IsPathOfTexts path schema name = (text_literal path.schema ≡ schema) × (text_literal path.name ≡ name)
+IsPathOfTexts path schema name =
+    (text_literal path.schema ≡ schema) × (text_literal path.name ≡ name)
 
 -- the key and its table for which these are written
 abbrev pub IsKeyPath : KeyPath → List ℕ → List ℕ → List ℕ → Type 0
@@ -81,8 +82,8 @@ IsRead F text (Err OutOfMemory) = TextOfSome F text
 
 -- the statement stands in this row and has this text
 abbrev pub InRow : ℕ → Statement → Language
-InRow row statement text = (row_of statement ≡ row) × IsTextOf statement text
+InRow row statement text = (list_row statement ≡ row) × IsTextOf statement text
 
 -- the statement stands in this row or a later one and has this text
 abbrev pub FromRow : ℕ → Statement → Language
-FromRow row statement text = (row ≤ row_of statement) × IsTextOf statement text
+FromRow row statement text = (row ≤ list_row statement) × IsTextOf statement text

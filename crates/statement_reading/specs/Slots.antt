@@ -42,12 +42,15 @@ parts_with (again index) before text = before
 -- what stands in slots one after another, after the parts before them
 unfoldable pub Shaped : List Place → List (List ℕ) → Language
 Shaped [] before = Nothing
-Shaped (slot ∷ slots) before = Next (slot_language slot before) (λ text. Shaped slots (parts_with slot before text))
+Shaped (slot ∷ slots) before =
+    Next (slot_language slot before) (λ text. Shaped slots (parts_with slot before text))
 
 -- the bytes have the shape, and these are all parts, with those before
 unfoldable pub HasParts : List Place → List (List ℕ) → List (List ℕ) → Language
 HasParts [] before parts text = (text ≡ []) × (parts ≡ before)
-HasParts (slot ∷ slots) before parts text = (a : List ℕ) × (b : List ℕ) × (text ≡ a ++ b) × slot_language slot before a × HasParts slots (parts_with slot before a) parts b
+HasParts (slot ∷ slots) before parts text =
+    (a : List ℕ) × (b : List ℕ) × (text ≡ a ++ b) × slot_language slot before a
+    × HasParts slots (parts_with slot before a) parts b
 
 -- the byte doesn't lengthen a part of that kind
 abbrev pub ends_part : PartKind → ℕ → Bool
@@ -58,7 +61,8 @@ ends_part TextLiteral byte = true
 ends_part Digest byte = true
 ends_part Count byte = if is_decimal_digit byte then false else true
 ends_part Bound byte = if is_decimal_digit byte then false else true
-ends_part (Bounds index) byte = if is_decimal_digit byte then false else (if byte == 44 then false else true)
+ends_part (Bounds index) byte =
+    if is_decimal_digit byte then false else (if byte == 44 then false else true)
 
 -- nothing lengthens the part before the word, or the word has a first byte, which doesn't
 abbrev pub ends_with : PartKind → List ℕ → Bool

@@ -2,8 +2,8 @@
 ghost use Rattle.std.specs.Prelude.{◌≡◌, ℕ, ◌++◌, codes, take, IfOk, MatchResult};
 ghost use Rattle.grammar.specs.Language.{Reads, Refused, Fixed, Then, Many};
 ghost use Rattle.sql_cells.specs.Name.{name_byte, quoted_name};
-ghost use Rattle.statement_forms.specs.Insert.{QuotedName, NamesAnd, NextName, NextLiteral, Row, NextRow, Rows, Filled, AnyInsert, InsertInto, HasRows};
-ghost use Rattle.statement_reading.specs.InsertReading.{RowInside, RowRest, Values, IsRun, IsRows, HasValues, IsFilled, run_size, filled_size};
+ghost use Rattle.statement_forms.specs.Insert.{QuotedName, NamesAnd, NextName, NextLiteral, Row, FurtherRow, Rows, Filled, AnyInsert, InsertInto, HasRows};
+ghost use Rattle.statement_reading.specs.InsertReading.{RowInside, RowRest, Values, IsRunOf, IsRows, HasValues, IsFilled, run_size, filled_size};
 ghost use Rattle.statement_reading.specs.Parts.{Names};
 
 use crate::reading::names::{read_name, read_next_name};
@@ -72,7 +72,7 @@ fn read_row(bytes: &[u8], more: u64) -> Result<usize, usize>
 }
 
 fn read_next_row(bytes: &[u8], more: u64) -> Result<usize, usize>
-    ensures { Reads (NextRow more) bytes.now result }
+    ensures { Reads (FurtherRow more) bytes.now result }
 {
     let comma = read_fixed(bytes, b",\n")?;
     after(comma, read_row(&bytes[comma..], more))
@@ -80,8 +80,8 @@ fn read_next_row(bytes: &[u8], more: u64) -> Result<usize, usize>
 
 // The rows after the first.
 fn read_next_rows(bytes: &[u8], more: u64) -> Result<Run, usize>
-    ensures reads { Reads (Many (NextRow more)) bytes.now (run_size result) }
-    ensures rows { IfOk result (λ run. IsRun (NextRow more) run bytes.now) }
+    ensures reads { Reads (Many (FurtherRow more)) bytes.now (run_size result) }
+    ensures rows { IfOk result (λ run. IsRunOf (FurtherRow more) run bytes.now) }
 {
     let mut size = 0;
     let mut count = 0;
@@ -100,7 +100,7 @@ fn read_next_rows(bytes: &[u8], more: u64) -> Result<Run, usize>
 // The names after the first.
 fn read_counted_names(bytes: &[u8]) -> Result<Run, usize>
     ensures reads { Reads (Many NextName) bytes.now (run_size result) }
-    ensures names { IfOk result (λ run. IsRun NextName run bytes.now) }
+    ensures names { IfOk result (λ run. IsRunOf NextName run bytes.now) }
 {
     let mut size = 0;
     let mut count = 0;

@@ -6,7 +6,7 @@ use Rattle.std.proofs.lemmas.List.{drop_more, drop_all, length-drop, get_or-drop
 use Rattle.memchr.specs.Find.{IsFirstByte, is_byte}
 use Rattle.statement_splitter.specs.Scan.{before_mark}
 use Rattle.statement_splitter.specs.Pieces.{begins, is_front_of}
-use Rattle.statement_splitter.specs.State.{Until, GoesOn, Ends}
+use Rattle.statement_splitter.specs.State.{Until, GoesOn, FindsEnd}
 use Rattle.statement_splitter.proofs.Words.{front_cons, front_empty, neither_more}
 use Rattle.statement_splitter.proofs.Searches.{goes_further, goes_to_end, no_first, mark_here, mark_not_here}
 
@@ -55,7 +55,7 @@ module _ (first : ℕ) (word bytes : List ℕ) where
   pub none_after : (from at : ℕ) → Until (is_byte first) bytes from at → at ≡ length bytes → GoesOn (before_mark (first ∷ word)) (before_mark (first ∷ word)) bytes from at × (is_front_of (first ∷ word) (drop at bytes) ≡ true)
   none_after from at until all = (first_goes from at until, ap (is_front_of (first ∷ word)) (drop_all at bytes (omega arith)) ∙ front_empty first word)
 
-  pub mark_ends : (from at : ℕ) → Until (is_byte first) bytes from at → at < length bytes → begins word (drop (at + 1) bytes) ≡ true → Ends (before_mark (first ∷ word)) bytes from at (length (first ∷ word))
+  pub mark_ends : (from at : ℕ) → Until (is_byte first) bytes from at → at < length bytes → begins word (drop (at + 1) bytes) ≡ true → FindsEnd (before_mark (first ∷ word)) bytes from at (length (first ∷ word))
   mark_ends from at until inside rest =
       let same : nat_eq first first ≡ true = grind (arith, nat_tests) in
       let here : begins (first ∷ word) (first ∷ drop (at + 1) bytes) ≡ true = rw same rest in

@@ -6,7 +6,8 @@ use Rattle.std.proofs.lemmas.Bool.Decides.{nat_tests}
 use Rattle.std.proofs.lemmas.List.{length-drop, drop-append-le, drop_all}
 use Rattle.std.proofs.lemmas.List.Folds.{prefix_len-append}
 use Rattle.std.proofs.lemmas.List.Sums.{prefix_len-le-length}
-use Rattle.statement_splitter.specs.Pieces.{is_white, begins, is_front_of, is_dollar, dollars_line, delimiter_line, line_opening, dash_opening, slash_opening, opening}
+use Rattle.plain_data.specs.Byte.{is_white}
+use Rattle.statement_splitter.specs.Pieces.{begins, is_front_of, is_dollar, dollars_line, delimiter_line, line_opening, dash_opening, slash_opening, opening}
 use Rattle.statement_splitter.specs.declared.delimiter.Delimiter.TheVariants.{Semicolon, Dollars}
 use Rattle.statement_splitter.specs.declared.opening.Opening.{Opening}
 use Rattle.statement_splitter.specs.declared.opening.Opening.TheVariants.{Nothing, White, Comment, DelimiterLine, Statement, Undecided}

@@ -6,7 +6,7 @@ use Rattle.std.proofs.lemmas.Bool.Decides.{nat_tests}
 use Rattle.std.proofs.lemmas.List.{drop_more, length-drop, length-replicate}
 use Rattle.statement_splitter.specs.Scan.{after_byte, is_text, before_semicolon, before_mark, dollar_line, plus}
 use Rattle.statement_splitter.specs.Pieces.{begins, is_front_of, is_dollar}
-use Rattle.statement_splitter.specs.State.{IsPlain, PlainRun, GoesOn, Ends}
+use Rattle.statement_splitter.specs.State.{IsPlain, RunWithin, GoesOn, FindsEnd}
 use Rattle.statement_splitter.specs.declared.within.Within.{Within}
 use Rattle.statement_splitter.proofs.Words.{begins_more, begins_long, front_cons, front_empty, same_back}
 
@@ -24,7 +24,7 @@ goes_same f bytes at h = record { low = omega arith; high = h; same = λ more. r
 pub goes_further : (f g h : List ℕ → Option ℕ) (bytes : List ℕ) (i j k : ℕ) → GoesOn f g bytes i j → GoesOn g h bytes j k → GoesOn f h bytes i k
 goes_further f g h bytes i j k a b = record { low = omega (arith, a.low, b.low); high = b.high; same = λ more. a.same more ∙ b.same more }
 
-pub goes_to_end : (f g : List ℕ → Option ℕ) (bytes : List ℕ) (i j k size : ℕ) → GoesOn f g bytes i j → Ends g bytes j k size → Ends f bytes i k size
+pub goes_to_end : (f g : List ℕ → Option ℕ) (bytes : List ℕ) (i j k size : ℕ) → GoesOn f g bytes i j → FindsEnd g bytes j k size → FindsEnd f bytes i k size
 goes_to_end f g bytes i j k size a b = record { low = omega (arith, a.low, b.low); high = b.high; finds = λ more. a.same more ∙ b.finds more }
 
 goes_by_steps : (f : List ℕ → Option ℕ) (bytes : List ℕ) (from n : ℕ) → from + n ≤ length bytes → ((k : ℕ) → from ≤ k → k < from + n → GoesOn f f bytes k (k + 1)) → GoesOn f f bytes from (from + n)
@@ -56,14 +56,14 @@ one_step f g bytes at h step = record {
 pub semicolon_step : (within : Within) (bytes : List ℕ) (at : ℕ) → at < length bytes → (get_or bytes at 0 == 59 && is_text within) ≡ false → GoesOn (before_semicolon within) (before_semicolon (after_byte within (get_or bytes at 0))) bytes at (at + 1)
 semicolon_step within bytes at h other = one_step (before_semicolon within) (before_semicolon (after_byte within (get_or bytes at 0))) bytes at h (λ rest. rw other)
 
-pub plain_goes : (within : Within) (bytes : List ℕ) (from to : ℕ) → PlainRun within bytes from to → GoesOn (before_semicolon within) (before_semicolon within) bytes from to
+pub plain_goes : (within : Within) (bytes : List ℕ) (from to : ℕ) → RunWithin within bytes from to → GoesOn (before_semicolon within) (before_semicolon within) bytes from to
 plain_goes within bytes from to run =
     goes_along (before_semicolon within) bytes from to run.low run.high (λ k a b.
     let plain : IsPlain within (get_or bytes k 0) = run.plain k a b in
     let at : k < length bytes = omega (arith, run.high) in
     subst (λ after. GoesOn (before_semicolon within) (before_semicolon after) bytes k (k + 1)) plain.0 (semicolon_step within bytes k at plain.1))
 
-pub semicolon_here : (within : Within) (bytes : List ℕ) (at : ℕ) → at < length bytes → (get_or bytes at 0 == 59 && is_text within) ≡ true → Ends (before_semicolon within) bytes at at 1
+pub semicolon_here : (within : Within) (bytes : List ℕ) (at : ℕ) → at < length bytes → (get_or bytes at 0 == 59 && is_text within) ≡ true → FindsEnd (before_semicolon within) bytes at at 1
 semicolon_here within bytes at h here = record {
   low = omega arith;
   high = omega arith;
@@ -80,7 +80,7 @@ no_first first word bytes from to low high other =
     one_step (before_mark (first ∷ word)) (before_mark (first ∷ word)) bytes k (omega arith) (λ rest. rw differs))
 
 -- a mark stands here
-pub mark_here : (first : ℕ) (word bytes : List ℕ) (at : ℕ) → begins (first ∷ word) (drop at bytes) ≡ true → Ends (before_mark (first ∷ word)) bytes at at (length (first ∷ word))
+pub mark_here : (first : ℕ) (word bytes : List ℕ) (at : ℕ) → begins (first ∷ word) (drop at bytes) ≡ true → FindsEnd (before_mark (first ∷ word)) bytes at at (length (first ∷ word))
 mark_here first word bytes at here =
     let long = begins_long (first ∷ word) (drop at bytes) here in
     let inside : at < length bytes = omega (arith, length-drop at bytes) in

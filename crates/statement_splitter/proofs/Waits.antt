@@ -6,7 +6,8 @@ use Rattle.std.proofs.lemmas.Bool.Decides.{nat_tests}
 use Rattle.std.proofs.lemmas.List.{length-drop, drop-drop, drop_at, drop_all, append_assoc}
 use Rattle.std.proofs.lemmas.List.Folds.{prefix_len-append}
 use Rattle.std.proofs.lemmas.List.Sums.{prefix_len-le-length, prefix_len_passes}
-use Rattle.statement_splitter.specs.Pieces.{is_white, begins, is_front_of, is_dollar, dollars_line, delimiter_line, line_opening, dash_opening, slash_opening, opening, Unread, with_more, after, next, size_of, step, step_by, further}
+use Rattle.plain_data.specs.Byte.{is_white}
+use Rattle.statement_splitter.specs.Pieces.{begins, is_front_of, is_dollar, dollars_line, delimiter_line, line_opening, dash_opening, slash_opening, opening, UnreadText, with_more, unread_past, next, next_size, step, step_by, further}
 use Rattle.statement_splitter.specs.declared.delimiter.Delimiter.{Delimiter}
 use Rattle.statement_splitter.specs.declared.delimiter.Delimiter.TheVariants.{Semicolon, Dollars}
 use Rattle.statement_splitter.specs.declared.opening.Opening.{Opening}
@@ -17,7 +18,7 @@ use Rattle.statement_splitter.proofs.Nexts.{further_here}
 
 -- no statement begins the bytes
 pub record IsSettled (fresh : Bool) (bytes : List ℕ) : Type 0 where
-  pub none : (ending : Delimiter) (offset : ℕ) → size_of (next (record { ending = ending; fresh = fresh; offset = offset; rest = bytes })) ≡ None
+  pub none : (ending : Delimiter) (offset : ℕ) → next_size (next (record { ending = ending; fresh = fresh; offset = offset; rest = bytes })) ≡ None
 
 dashes : (fresh : Bool) → IsSettled fresh (codes "-- ")
 unfolding next
@@ -54,7 +55,7 @@ dollars_opening fresh b bs is dollar all =
     let rest = after_them (b ∷ bs) in
     rw is (rw (other, none) (ap (λ k. dollars_line k (drop k (b ∷ bs ++ codes "$$\n"))) count ∙ ap (dollars_line (length (b ∷ bs) + 2)) rest ∙ enough (length (b ∷ bs))))
 
-nothing_left : (u : Unread) → u.rest ≡ [] → size_of (next u) ≡ None
+nothing_left : (u : UnreadText) → u.rest ≡ [] → next_size (next u) ≡ None
 unfolding next
 nothing_left u none = rw none
 
@@ -62,11 +63,11 @@ dollars_settled : (fresh : Bool) (b : ℕ) (bs : List ℕ) → fresh ≡ true �
 unfolding dollars_text
 dollars_settled fresh b bs is dollar all = record {
   none = λ ending offset.
-      let u : Unread = record { ending = ending; fresh = fresh; offset = offset; rest = dollars_text (b ∷ bs) } in
+      let u : UnreadText = record { ending = ending; fresh = fresh; offset = offset; rest = dollars_text (b ∷ bs) } in
       let size : ℕ = length (b ∷ bs) + 2 in
-      let over : step u ≡ further (after (11 + size) true (Dollars size) u) = ap (step_by u) (dollars_opening fresh b bs is dollar all) in
+      let over : step u ≡ further (unread_past (11 + size) true (Dollars size) u) = ap (step_by u) (dollars_opening fresh b bs is dollar all) in
       let left : drop (11 + size) (dollars_text (b ∷ bs)) ≡ [] = drop_all (11 + size) (dollars_text (b ∷ bs)) (simp length-append (omega arith)) in
-      ap size_of (further_here u (after (11 + size) true (Dollars size) u) over) ∙ nothing_left (after (11 + size) true (Dollars size) u) left;
+      ap next_size (further_here u (unread_past (11 + size) true (Dollars size) u) over) ∙ nothing_left (unread_past (11 + size) true (Dollars size) u) left;
 }
 
 -- some bytes after these settle them
@@ -159,6 +160,6 @@ settles fresh [] is = absurd (cc)
 settles fresh (byte ∷ bytes) is = settles_by fresh byte bytes (is_white byte) (byte == 35) (byte == 45) (byte == 47) fresh refl refl refl is
 
 -- with some bytes, what more bytes decide is passed over, and no statement comes next
-pub undecided_settles : (u : Unread) → opening u.fresh u.rest ≡ Undecided → (more : List ℕ) × (size_of (next (with_more more u)) ≡ None)
+pub undecided_settles : (u : UnreadText) → opening u.fresh u.rest ≡ Undecided → (more : List ℕ) × (next_size (next (with_more more u)) ≡ None)
 unfolding CanSettle
 undecided_settles u is = let s = settles u.fresh u.rest is in (s.0, s.1.none u.ending u.offset)

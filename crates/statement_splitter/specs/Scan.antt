@@ -20,13 +20,15 @@ after_text byte =
 abbrev pub after_byte : Within → ℕ → Within
 after_byte Text byte = after_text byte
 after_byte Dash byte = if byte == 45 then Dashes else after_text byte
-after_byte Dashes byte = if byte == 32 then Line else (if byte == 45 then Dashes else after_text byte)
+after_byte Dashes byte =
+    if byte == 32 then Line else (if byte == 45 then Dashes else after_text byte)
 after_byte Slash byte = if byte == 42 then Opened else after_text byte
 after_byte Opened byte = if byte == 33 then Text else (if byte == 42 then Star else Comment)
 after_byte Comment byte = if byte == 42 then Star else Comment
 after_byte Star byte = if byte == 47 then Text else (if byte == 42 then Star else Comment)
 after_byte Line byte = if byte == 10 then Text else Line
-after_byte (Quoted quote) byte = if byte == quote then Text else (if byte == 92 then Escaped quote else Quoted quote)
+after_byte (Quoted quote) byte =
+    if byte == quote then Text else (if byte == 92 then Escaped quote else Quoted quote)
 after_byte (Escaped quote) byte = Quoted quote
 after_byte Name byte = if byte == 96 then Text else Name
 
@@ -46,12 +48,15 @@ plus n (Some size) = Some (n + size)
 -- how many bytes come before the first `;` that is in no quotes and in no comment
 abbrev pub before_semicolon : Within → List ℕ → Option ℕ
 before_semicolon within [] = None
-before_semicolon within (byte ∷ bytes) = if byte == 59 && is_text within then Some 0 else plus 1 (before_semicolon (after_byte within byte) bytes)
+before_semicolon within (byte ∷ bytes) =
+    if byte == 59 && is_text within then Some 0
+    else plus 1 (before_semicolon (after_byte within byte) bytes)
 
 -- how many bytes come before the first place where the mark stands
 abbrev pub before_mark : List ℕ → List ℕ → Option ℕ
 before_mark mark [] = None
-before_mark mark (byte ∷ bytes) = if starts_with nat_eq (byte ∷ bytes) mark then Some 0 else plus 1 (before_mark mark bytes)
+before_mark mark (byte ∷ bytes) =
+    if starts_with nat_eq (byte ∷ bytes) mark then Some 0 else plus 1 (before_mark mark bytes)
 
 -- so many dollars on a line of their own
 abbrev pub dollar_line : ℕ → List ℕ

@@ -1,7 +1,7 @@
 //! Laws of the calls of a splitter, and of whole files.
 ghost use Rattle.std.specs.Prelude.{◌≡◌, codes, Some, None};
 ghost use Rattle.statement_splitter.specs.Laws.{AGivenPieceIsTheFirst, NoneIsLost, TooLongStaysSo, quoting_file, quoting_pieces, delimited_file, delimited_pieces};
-ghost use Rattle.statement_splitter.specs.Pieces.{pieces, unread_file, begun, last};
+ghost use Rattle.statement_splitter.specs.Pieces.{pieces, unread_file, begun_size, last};
 
 /// A law: a statement that is given is the first of the file's, whatever bytes follow. Does nothing.
 #[inline]
@@ -29,6 +29,6 @@ pub fn too_long_stays_so()
 pub fn files_are_divided_so()
     ensures comments_and_quotes { pieces (unread_file quoting_file) ≡ quoting_pieces }
     ensures delimiters { pieces (unread_file delimited_file) ≡ delimited_pieces }
-    ensures statement_begun { begun (last (unread_file (codes "x; y"))) ≡ Some 3 }
-    ensures comment_begun { begun (last (unread_file (codes "x; /* y"))) ≡ None }
+    ensures statement_begun { begun_size (last (unread_file (codes "x; y"))) ≡ Some 3 }
+    ensures comment_begun { begun_size (last (unread_file (codes "x; /* y"))) ≡ None }
 {}

@@ -1,8 +1,8 @@
 //! Where a splitter is in the bytes that it holds.
 ghost use Rattle.std.specs.Prelude.{◌≡◌, ◌+◌, ◌≤◌, ◌<◌, ◌^◌, length, Some};
 ghost use Rattle.statement_splitter.specs.Scan.{end_size};
-ghost use Rattle.statement_splitter.specs.Pieces.{mark_of, begun, last};
-ghost use Rattle.statement_splitter.specs.State.{later_place, place_after_statement, unread_at, InComment, InStatement, IsPlace, Turns, Finds, least};
+ghost use Rattle.statement_splitter.specs.Pieces.{mark_of, begun_size, last};
+ghost use Rattle.statement_splitter.specs.State.{later_place, place_after_statement, unread_at, InComment, InStatement, IsPlaceWithin, Turns, Finds, least};
 
 use crate::delimiter::Delimiter;
 use crate::mark::{Mark, comment_end_from};
@@ -86,7 +86,7 @@ fn mark_size(end: CommentEnd) -> usize
 
 // Passes over the comment that is begun, from its byte `from` on, where it is ended.
 fn comment_turn(bytes: &[u8], place: &mut Place, from: usize, end: CommentEnd) -> Option<Found>
-    requires place { IsPlace bytes.now place.old }
+    requires place { IsPlaceWithin bytes.now place.old }
     requires comment { InComment (unread_at bytes.now place.old) from (mark_of end) }
     ensures { Turns bytes.now place.old result place.new }
 {
@@ -107,7 +107,7 @@ fn comment_turn(bytes: &[u8], place: &mut Place, from: usize, end: CommentEnd) -
 
 // Looks for the end of the statement that is begun, from its byte `from` on.
 fn statement_turn(bytes: &[u8], place: &mut Place, from: usize, within: Within) -> Found
-    requires place { IsPlace bytes.now place.old }
+    requires place { IsPlaceWithin bytes.now place.old }
     requires statement { InStatement (unread_at bytes.now place.old) from within }
     ensures { Turns bytes.now place.old (Some result) place.new }
 {
@@ -124,7 +124,7 @@ fn statement_turn(bytes: &[u8], place: &mut Place, from: usize, within: Within) 
 
 // Looks at bytes of which nothing is known.
 fn first_turn(bytes: &[u8], place: &mut Place) -> Option<Found>
-    requires { IsPlace bytes.now place.old }
+    requires { IsPlaceWithin bytes.now place.old }
     ensures { Turns bytes.now place.old result place.new }
 {
     let rest = rest_of(bytes, place.at);
@@ -148,7 +148,7 @@ fn first_turn(bytes: &[u8], place: &mut Place) -> Option<Found>
 
 // Passes over one thing, or says what stands there that isn't passed over.
 fn turn(bytes: &[u8], place: &mut Place) -> Option<Found>
-    requires { IsPlace bytes.now place.old }
+    requires { IsPlaceWithin bytes.now place.old }
     ensures { Turns bytes.now place.old result place.new }
 {
     let from = place.scanned;
@@ -161,7 +161,7 @@ fn turn(bytes: &[u8], place: &mut Place) -> Option<Found>
 
 // Goes to what comes next, and says what it is.
 pub(crate) fn find(bytes: &[u8], place: &mut Place) -> Found
-    requires { IsPlace bytes.now place.old }
+    requires { IsPlaceWithin bytes.now place.old }
     ensures { Finds bytes.now place.old result place.new }
 {
     'turns: loop {
@@ -185,8 +185,8 @@ pub(crate) fn least_size(found: Found, scanned: usize) -> usize
 
 // The offset of the statement that is begun and not ended, where there is one.
 pub(crate) fn begun_from(bytes: &[u8], place: Place) -> Option<u64>
-    requires { IsPlace bytes.now place }
-    ensures { result ≡ begun (last (unread_at bytes.now place)) }
+    requires { IsPlaceWithin bytes.now place }
+    ensures { result ≡ begun_size (last (unread_at bytes.now place)) }
 {
     let mut now = place;
     'pieces: loop {

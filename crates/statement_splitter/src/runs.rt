@@ -1,7 +1,7 @@
 //! Bytes that stand where those before them stand.
 ghost use Rattle.std.specs.Prelude.{◌≡◌, ◌≤◌, length, drop};
 ghost use Rattle.memchr.specs.Find.{is_byte, is_byte2};
-ghost use Rattle.statement_splitter.specs.State.{Until, PlainRun};
+ghost use Rattle.statement_splitter.specs.State.{Until, RunWithin};
 ghost use Rattle.statement_splitter.specs.declared.within.Within.TheVariants.{Text};
 
 use crate::within::Within;
@@ -56,7 +56,7 @@ fn either_until(bytes: &[u8], from: usize, one: u8, other: u8) -> usize
 #[inline]
 fn text_until(bytes: &[u8], from: usize) -> usize
     requires { from ≤ length bytes.now }
-    ensures { PlainRun Text bytes.now from result }
+    ensures { RunWithin Text bytes.now from result }
 {
     for i in from..bytes.len() {
         if STOPS[bytes[i] as usize] != 0 {
@@ -70,7 +70,7 @@ fn text_until(bytes: &[u8], from: usize) -> usize
 #[inline]
 pub(crate) fn plain_until(bytes: &[u8], from: usize, within: Within) -> usize
     requires { from ≤ length bytes.now }
-    ensures { PlainRun within bytes.now from result }
+    ensures { RunWithin within bytes.now from result }
 {
     match within {
         Within::Text => text_until(bytes, from),

@@ -2,7 +2,7 @@
 ghost use Rattle.std.specs.Prelude.{◌≡◌, ◌+◌, ◌≤◌, ◌^◌, [], length, drop, vec_len, OnOk, OnErr, MatchResult, None, Some};
 ghost use Rattle.std.specs.Borrow.{sem};
 ghost use Rattle.std.specs.Io.BufRead.{Rests};
-ghost use Rattle.statement_splitter.specs.Pieces.{unread_file, begun, last};
+ghost use Rattle.statement_splitter.specs.Pieces.{unread_file, begun_size, last};
 
 use crate::delimiter::Delimiter;
 use crate::place::{Begun, Found, Place, after_statement, begun_from, find, least_size};
@@ -42,14 +42,14 @@ pub struct Splitter {
 
 impl Model for Splitter {
     ghost use Rattle.std.specs.Prelude.{◌+◌, ◌≤◌, slice_range, vec_len};
-    ghost use Rattle.statement_splitter.specs.State.{unread_at, IsPlace};
+    ghost use Rattle.statement_splitter.specs.State.{unread_at, IsPlaceWithin};
     ghost use Rattle.statement_splitter.specs.Splits.{Split};
 
     ghost Value = { Split };
 
     ghost view = { λ s. record { limit = s.limit; last = record { offset = s.offset; text = slice_range s.store.items s.start (s.start + s.size) }; unread = unread_at s.store.items s.place } };
 
-    ghost invariant = { λ s. (s.start + s.size ≤ vec_len s.store) × IsPlace s.store.items s.place };
+    ghost invariant = { λ s. (s.start + s.size ≤ vec_len s.store) × IsPlaceWithin s.store.items s.place };
 }
 
 // Gives up so many bytes at the front.
@@ -66,7 +66,7 @@ fn give_up_front(store: &mut Vec<u8>, count: usize)
 }
 
 impl Splitter {
-    ghost use Rattle.statement_splitter.specs.Splits.{Steps, HandsOut, after_feed, no_piece, piece_of};
+    ghost use Rattle.statement_splitter.specs.Splits.{StepsOnce, GivesStatement, after_feed, no_piece, piece_of};
     ghost use Rattle.statement_splitter.specs.contracts.splitter.Splitter.{the_row};
 
     /// A file of which nothing was fed. A statement may have at most `limit` bytes. Takes no memory.
@@ -111,7 +111,7 @@ impl Splitter {
     /// Goes to the next statement that is ended, and says whether there was one; [`Splitter::piece`]
     /// lends it. Takes no memory.
     pub(crate) fn step(&mut self) -> Result<bool, SplitFault>
-        ensures { Steps self.old result self.new }
+        ensures { StepsOnce self.old result self.new }
     {
         let mut place = self.place;
         let found = find(&self.store, &mut place);
@@ -144,7 +144,8 @@ impl Splitter {
     /// none is ended yet. `TooLong` comes exactly where the next statement passes the limit whatever
     /// bytes follow; it is answered from then on. Takes no memory.
     pub fn next(&mut self) -> Result<Option<Piece<'_>>, SplitFault>
-        ensures* after { sem 𝓛 (Rests the_row self.entry (λ new. HandsOut self.old result new)) }
+        ensures* after { sem 𝓛
+            (Rests the_row self.entry (λ new. GivesStatement self.old result new)) }
     {
         if self.step()? {
             return Ok(Some(self.piece()));
@@ -155,8 +156,8 @@ impl Splitter {
     /// Whether the file may end here: where a statement is begun that isn't ended, how many bytes of
     /// the file come before it. Takes no memory.
     pub fn end(&self) -> Result<(), u64>
-        ensures { MatchResult result (λ _. begun (last self.now.unread) ≡ None)
-            (λ offset. begun (last self.now.unread) ≡ Some offset) }
+        ensures { MatchResult result (λ _. begun_size (last self.now.unread) ≡ None)
+            (λ offset. begun_size (last self.now.unread) ≡ Some offset) }
     {
         match begun_from(&self.store, self.place) {
             Some(offset) => Err(offset),

@@ -47,8 +47,8 @@ pub record ShelfStatus : Type 0 where
   pub unread : Option (List ℕ)
 
 -- a shelf on which nothing was done yet
-abbrev pub new_shelf : ShelfStatus
-new_shelf = record {
+abbrev pub fresh_shelf : ShelfStatus
+fresh_shelf = record {
   begun = false;
   size = 0;
   reading = None;

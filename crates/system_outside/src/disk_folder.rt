@@ -3,7 +3,7 @@ ghost use Rattle.std.specs.Prelude.{◌≡◌, ◌≤◌, ◌+◌, ◌-◌, [], 
 ghost use Rattle.std.specs.Ordering.{nat_cmp};
 ghost use Rattle.std.specs.Cmp.Lexicographic.{slice_cmp};
 ghost use Rattle.link_traits.specs.Cause.{Rose};
-ghost use Rattle.system_outside.specs.Status.{new_shelf, one_fault_more};
+ghost use Rattle.system_outside.specs.Status.{fresh_shelf, one_fault_more};
 
 use crate::disk_shelf::DiskShelf;
 use link_traits::{Folder, FolderFailed, ListFault};
@@ -174,7 +174,7 @@ impl<R: Files + AllocGlobal + Clone + Drop> DiskFolder<R> {
 
     // A shelf for the directory.
     fn new_shelf(&self) -> Option<DiskShelf<R>>
-        ensures { IfSome result (λ shelf. shelf ≡ new_shelf) }
+        ensures { IfSome result (λ shelf. shelf ≡ fresh_shelf) }
     {
         let path = self.path.as_ref()?;
         make_directory(&self.rt, path.as_str()).ok()?;

@@ -3,7 +3,7 @@ ghost use Rattle.std.specs.Prelude.{◌≡◌, ◌<◌, ◌≤◌, ◌+◌, ◌-
 ghost use Rattle.std.specs.Io.KnownBytes.{Appends, Consumes, IsAtEnd};
 ghost use Rattle.link_traits.specs.Cause.{HasCause};
 ghost use Rattle.link_traits.specs.Folder.{CountsRead};
-ghost use Rattle.system_outside.specs.Status.{new_shelf, one_fault_more};
+ghost use Rattle.system_outside.specs.Status.{fresh_shelf, one_fault_more};
 
 use crate::transfer::{read_next, write_front};
 use link_traits::{FolderFailed, Shelf};
@@ -57,7 +57,7 @@ impl<R: Files> Model for DiskShelf<R> {
 impl<R: Files> DiskShelf<R> {
     /// A shelf for the directory of this path. Takes no memory.
     pub(crate) fn new(rt: R, path: String) -> DiskShelf<R>
-        ensures { result ≡ new_shelf }
+        ensures { result ≡ fresh_shelf }
     {
         DiskShelf {
             rt,

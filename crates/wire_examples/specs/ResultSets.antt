@@ -1,6 +1,6 @@
 -- Whole result sets (MySQL source documentation, ProtocolText::Resultset).
 use Rattle.std.specs.Prelude.{ℕ, List, [], ◌∷◌, ◌++◌, Some, None, codes}
-use Rattle.wire_forms.specs.Row.{Cell}
+use Rattle.plain_data.specs.Cell.{Cell}
 use Rattle.wire_forms.specs.ResultSet.{IsResultSet, IsTaken}
 use Rattle.wire_forms.specs.declared.ends.Ends.TheVariants.{Eof, Ok}
 use Rattle.wire_examples.specs.Replies.{id_definition, eof, ending_ok}

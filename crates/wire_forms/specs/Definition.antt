@@ -6,7 +6,8 @@ use Rattle.wire_forms.specs.Row.{string_of}
 -- what stands after so many length-encoded strings
 abbrev pub after_strings : ℕ → List ℕ → Option (List ℕ)
 after_strings zero bytes = Some bytes
-after_strings (suc count) bytes = option_and_then (λ (string : List ℕ × List ℕ). after_strings count string.1) (string_of bytes)
+after_strings (suc count) bytes =
+    option_and_then (λ (string : List ℕ × List ℕ). after_strings count string.1) (string_of bytes)
 
 -- the fields of a fixed length: their length 0c, charset 2, column length 4, type 1, flags 2, decimals 1, and two bytes
 abbrev pub is_fixed_part : Option (List ℕ) → Bool
@@ -20,4 +21,7 @@ is_definition payload = is_fixed_part (after_strings 6 payload)
 
 -- the number of columns of a result set: from 1 to 65,535, and nothing after it
 abbrev pub column_count : List ℕ → Option ℕ
-column_count payload = option_and_then (λ (number : ℕ × ℕ). if number.1 == length payload && nat_le 1 number.0 && nat_le number.0 65535 then Some number.0 else None) (lenenc_of payload)
+column_count payload =
+    option_and_then (λ (number : ℕ × ℕ).
+    if number.1 == length payload && nat_le 1 number.0 && nat_le number.0 65535 then Some number.0
+    else None) (lenenc_of payload)

@@ -22,7 +22,8 @@ three_bytes rest = None
 
 -- a number of eight bytes after the first one, and the length of the whole spelling
 abbrev pub eight_bytes : List ℕ → Option (ℕ × ℕ)
-eight_bytes rest = if nat_lt (length rest) 8 then None else Some (from_le_bytes w64 (take 8 rest), 9)
+eight_bytes rest =
+    if nat_lt (length rest) 8 then None else Some (from_le_bytes w64 (take 8 rest), 9)
 
 -- the number that begins the bytes, and the length of its spelling, which may be longer than need be
 abbrev pub lenenc_of : List ℕ → Option (ℕ × ℕ)

@@ -24,7 +24,9 @@ full_size = 16777215
 -- so many full packets from this id on
 abbrev pub full_packets : ℕ → ℕ → List ℕ → List ℕ
 full_packets zero id payload = []
-full_packets (suc more) id payload = packet (id % 256) (take full_size payload) ++ full_packets more (next_id id) (drop full_size payload)
+full_packets (suc more) id payload =
+    packet (id % 256) (take full_size payload)
+    ++ full_packets more (next_id id) (drop full_size payload)
 
 -- how many full packets a message of so many bytes has in front of its last
 abbrev pub full_count : ℕ → ℕ
@@ -36,7 +38,9 @@ last_packet count id message = packet (id_after count id) (drop (full_size * cou
 
 -- the packets of a message from this id on: full ones as far as its bytes go, and the last
 unfoldable pub packets : ℕ → List ℕ → List ℕ
-packets id message = full_packets (full_count (length message)) id message ++ last_packet (full_count (length message)) id message
+packets id message =
+    full_packets (full_count (length message)) id message
+    ++ last_packet (full_count (length message)) id message
 
 -- how many packets a message of so many bytes has
 abbrev pub packet_count : ℕ → ℕ
@@ -57,5 +61,7 @@ pub record HasHeader (size id : ℕ) (bytes : List ℕ) : Type 0 where
 
 -- how many bytes are missing of the header, or of the right packet, that the bytes begin; 0 where none are
 abbrev pub missing : ℕ → ℕ → List ℕ → ℕ
-missing limit id (low ∷ middle ∷ high ∷ found ∷ payload) = if found == id && nat_le (announced_length low middle high) limit then announced_length low middle high - length payload else 0
+missing limit id (low ∷ middle ∷ high ∷ found ∷ payload) =
+    if found == id && nat_le (announced_length low middle high) limit
+    then announced_length low middle high - length payload else 0
 missing limit id bytes = 4 - length bytes

@@ -3,7 +3,8 @@ use Rattle.std.specs.Prelude.{ℕ, ◌-◌, ◌+◌, ◌==◌, ◌&&◌, nat_lt,
 use Rattle.wire_forms.specs.Definition.{is_definition}
 use Rattle.wire_forms.specs.Packet.{full_size}
 use Rattle.wire_forms.specs.Reply.{is_eof_packet, is_ending_ok, refusal_of}
-use Rattle.wire_forms.specs.Row.{Cell, cells_of}
+use Rattle.plain_data.specs.Cell.{Cell}
+use Rattle.wire_forms.specs.Row.{cells_of}
 use Rattle.wire_forms.specs.declared.ends.Ends.{Ends}
 use Rattle.wire_forms.specs.declared.ends.Ends.TheVariants.{Eof, Ok}
 use Rattle.wire_forms.specs.declared.refusal.Refusal.{Refusal}
@@ -21,7 +22,8 @@ pub record Reading : Type 0 where
 
 -- a result set of so many columns, of which the number was read
 abbrev pub columns_counted : Ends → ℕ → Reading
-columns_counted ends columns = record { columns = columns; awaited = awaited_count ends columns; ends = ends }
+columns_counted ends columns =
+    record { columns = columns; awaited = awaited_count ends columns; ends = ends }
 
 -- nothing is pending
 abbrev pub idle : Ends → Reading
@@ -63,7 +65,8 @@ end_limit Ok = full_size
 -- a message is in the end's place, by its first byte and its length
 abbrev pub is_in_ends_place : Ends → List ℕ → Bool
 is_in_ends_place ends [] = false
-is_in_ends_place ends (byte ∷ bytes) = byte == 254 && nat_lt (length (byte ∷ bytes)) (end_limit ends)
+is_in_ends_place ends (byte ∷ bytes) =
+    byte == 254 && nat_lt (length (byte ∷ bytes)) (end_limit ends)
 
 -- the packet after the rows: an EOF, or an OK with the header fe
 abbrev pub is_end_packet : Ends → List ℕ → Bool
@@ -75,11 +78,13 @@ abbrev pub row_of : Ends → ℕ → List ℕ → Further
 row_of ends columns [] = garbled
 row_of ends columns (byte ∷ bytes) =
     if is_in_ends_place ends (byte ∷ bytes) then end_if (is_end_packet ends (byte ∷ bytes)) else
-    (if byte == 255 then refused_if (refusal_of (byte ∷ bytes)) else row_if (cells_of columns (byte ∷ bytes)))
+    (if byte == 255 then refused_if (refusal_of (byte ∷ bytes))
+    else row_if (cells_of columns (byte ∷ bytes)))
 
 -- a message before the rows, where so many are awaited: a definition, or the EOF that is the last of them
 abbrev pub is_before_rows : Ends → ℕ → List ℕ → Bool
-is_before_rows Eof awaited message = if awaited == 1 then is_eof_packet message else is_definition message
+is_before_rows Eof awaited message =
+    if awaited == 1 then is_eof_packet message else is_definition message
 is_before_rows Ok awaited message = is_definition message
 
 -- a further message of a result set: those before the rows, and then rows

@@ -15,7 +15,9 @@ after_number bytes = option_map (λ (number : ℕ × ℕ). drop number.1 bytes) 
 
 -- what stands after the first byte of an OK: affected rows and last insert id length-encoded, status 2, warnings 2, then anything
 abbrev pub are_ok_fields : List ℕ → Bool
-are_ok_fields bytes = option_map_or (λ (rest : List ℕ). nat_le 4 (length rest)) (option_and_then after_number (after_number bytes)) false
+are_ok_fields bytes =
+    option_map_or (λ (rest : List ℕ). nat_le 4 (length rest))
+    (option_and_then after_number (after_number bytes)) false
 
 -- an OK: 00, and its fields
 abbrev pub is_ok_packet : List ℕ → Bool
@@ -25,7 +27,8 @@ is_ok_packet (byte ∷ bytes) = byte == 0 && are_ok_fields bytes
 -- an OK in place of an EOF: fe and the fields of an OK, fewer bytes in all than a full packet has (CLIENT_DEPRECATE_EOF)
 abbrev pub is_ending_ok : List ℕ → Bool
 is_ending_ok [] = false
-is_ending_ok (byte ∷ bytes) = byte == 254 && nat_lt (length (byte ∷ bytes)) full_size && are_ok_fields bytes
+is_ending_ok (byte ∷ bytes) =
+    byte == 254 && nat_lt (length (byte ∷ bytes)) full_size && are_ok_fields bytes
 
 -- an EOF: fe, warnings 2, status 2, and fewer than nine bytes in all
 abbrev pub is_eof_packet : List ℕ → Bool
@@ -34,14 +37,21 @@ is_eof_packet (byte ∷ bytes) = byte == 254 && nat_le 4 (length bytes) && nat_l
 
 -- what an ERR says after its code: `#`, the state's five bytes and the message, or the message alone
 abbrev pub refusal_of_code : ℕ → List ℕ → Option Refusal
-refusal_of_code code [] = Some (record { code = code; state = codes "HY000"; message = kept_text [] })
+refusal_of_code code [] =
+    Some (record { code = code; state = codes "HY000"; message = kept_text [] })
 refusal_of_code code (byte ∷ bytes) =
-    if byte == 35 then (if nat_le 5 (length bytes) then Some (record { code = code; state = take 5 bytes; message = kept_text (drop 5 bytes) }) else None) else
+    if byte == 35 then (if nat_le 5 (length bytes)
+    then Some (record {
+      code = code;
+      state = take 5 bytes;
+      message = kept_text (drop 5 bytes);
+    }) else None) else
     Some (record { code = code; state = codes "HY000"; message = kept_text (byte ∷ bytes) })
 
 -- an ERR: ff, the code in two bytes, the state and the message
 abbrev pub refusal_of : List ℕ → Option Refusal
-refusal_of (byte ∷ low ∷ high ∷ bytes) = if byte == 255 then refusal_of_code (low + 256 * high) bytes else None
+refusal_of (byte ∷ low ∷ high ∷ bytes) =
+    if byte == 255 then refusal_of_code (low + 256 * high) bytes else None
 refusal_of bytes = None
 
 -- a reply's first message: OK, ERR, or the number of columns of a result set

@@ -1,6 +1,7 @@
 -- Whole text result sets (MySQL source documentation, ProtocolText::Resultset).
 use Rattle.std.specs.Prelude.{ℕ, ◌≡◌, ◌==◌, ◌&&◌, ◌↔◌, not, Bool, false, IsTrue, List, [], ◌∷◌, ◌++◌, length, map, replicate, Some}
-use Rattle.wire_forms.specs.Row.{Cell, cells_of}
+use Rattle.plain_data.specs.Cell.{Cell}
+use Rattle.wire_forms.specs.Row.{cells_of}
 use Rattle.wire_forms.specs.Definition.{is_definition, column_count}
 use Rattle.wire_forms.specs.Reply.{is_eof_packet, reply_of}
 use Rattle.wire_forms.specs.Reading.{Reading, Further, definition, row, end, awaited_count, columns_counted, is_in_ends_place, is_end_packet, further_of, reading_after}
@@ -28,7 +29,8 @@ abbrev pub AreRows : Ends → ℕ → List (List ℕ) → List (List Cell) → T
 AreRows ends columns [] [] = Unit {0}
 AreRows ends columns [] (cells ∷ rows) = ⊥
 AreRows ends columns (message ∷ messages) [] = ⊥
-AreRows ends columns (message ∷ messages) (cells ∷ rows) = IsRow ends columns message cells × AreRows ends columns messages rows
+AreRows ends columns (message ∷ messages) (cells ∷ rows) =
+    IsRow ends columns message cells × AreRows ends columns messages rows
 
 -- the messages between the definitions and the rows: one EOF, or none
 abbrev pub IsBetween : Ends → List (List ℕ) → Type 0
@@ -39,7 +41,8 @@ IsBetween Ok [] = Unit {0}
 IsBetween Ok (message ∷ messages) = ⊥
 
 -- the messages of a result set: the number of columns, a definition of each, an EOF or none, the rows, and the end
-pub record IsResultSet (ends : Ends) (columns : ℕ) (rows : List (List Cell)) (messages : List (List ℕ)) : Type 0 where
+pub record IsResultSet (ends : Ends) (columns : ℕ) (rows : List (List Cell))
+    (messages : List (List ℕ)) : Type 0 where
   pub count : List ℕ
   pub definitions : List (List ℕ)
   pub between : List (List ℕ)
@@ -56,16 +59,22 @@ pub record IsResultSet (ends : Ends) (columns : ℕ) (rows : List (List Cell)) (
 -- what a reader takes messages for, one after the other
 abbrev pub turns_of : Reading → List (List ℕ) → List Further
 turns_of reading [] = []
-turns_of reading (message ∷ messages) = further_of reading message ∷ turns_of (reading_after reading (further_of reading message)) messages
+turns_of reading (message ∷ messages) =
+    further_of reading message
+    ∷ turns_of (reading_after reading (further_of reading message)) messages
 
 -- the reader takes the messages for a number of columns, those before the rows, the rows, and the end
-pub record IsTaken (ends : Ends) (columns : ℕ) (rows : List (List Cell)) (messages : List (List ℕ)) : Type 0 where
+pub record IsTaken (ends : Ends) (columns : ℕ) (rows : List (List Cell))
+    (messages : List (List ℕ)) : Type 0 where
   pub first : List ℕ
   pub others : List (List ℕ)
   pub messages_are : messages ≡ first ∷ others
   pub reply : reply_of first ≡ Some (Columns columns)
-  pub turns : turns_of (columns_counted ends columns) others ≡ replicate (awaited_count ends columns) definition ++ (map row rows ++ end ∷ [])
+  pub turns : turns_of (columns_counted ends columns) others
+      ≡ replicate (awaited_count ends columns) definition ++ (map row rows ++ end ∷ [])
 
 -- a whole result set is exactly what the reader takes for one, however result sets end
 abbrev pub ResultSetsAreTaken : Type 0
-ResultSetsAreTaken = (ends : Ends) (columns : ℕ) (rows : List (List Cell)) (messages : List (List ℕ)) → IsResultSet ends columns rows messages ↔ IsTaken ends columns rows messages
+ResultSetsAreTaken =
+    (ends : Ends) (columns : ℕ) (rows : List (List Cell)) (messages : List (List ℕ)) →
+    IsResultSet ends columns rows messages ↔ IsTaken ends columns rows messages

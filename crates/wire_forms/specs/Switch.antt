@@ -8,12 +8,16 @@ use Rattle.wire_forms.specs.declared.login_fault.LoginFault.TheVariants.{PluginU
 
 -- twenty bytes, after which a 00 may stand
 abbrev pub new_scramble : List ℕ → Option (List ℕ)
-new_scramble bytes = if length bytes == 20 || (length bytes == 21 && slice_index bytes 20 == 0) then Some (take 20 bytes) else None
+new_scramble bytes =
+    if length bytes == 20 || (length bytes == 21 && slice_index bytes 20 == 0)
+    then Some (take 20 bytes) else None
 
 -- a switch to this plugin, with these bytes after its name
 abbrev pub switch_to : List ℕ → List ℕ → Result Switch LoginFault
 switch_to plugin bytes =
-    if bytes_eq plugin native_password then ok_or (option_map (λ scramble. record { scramble = scramble }) (new_scramble bytes)) Garbled else
+    if bytes_eq plugin native_password
+    then ok_or (option_map (λ scramble. record { scramble = scramble }) (new_scramble bytes))
+    Garbled else
     Err (PluginUnsupported (kept_text plugin))
 
 -- a plugin's name, its 00, and the other bytes

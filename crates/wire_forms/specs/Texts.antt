@@ -8,7 +8,9 @@ text_size bytes = position_or_len (λ byte. byte == 0) bytes
 
 -- the bytes up to the first 00, and those after it
 abbrev pub to_zero : List ℕ → Option (List ℕ × List ℕ)
-to_zero bytes = if nat_lt (text_size bytes) (length bytes) then Some (take (text_size bytes) bytes, drop (text_size bytes + 1) bytes) else None
+to_zero bytes =
+    if nat_lt (text_size bytes) (length bytes)
+    then Some (take (text_size bytes) bytes, drop (text_size bytes + 1) bytes) else None
 
 -- the plugin whose answer to a scramble is computed
 abbrev pub native_password : List ℕ

@@ -1,14 +1,14 @@
 //! Readers of strings: parts from quote to quote, one after another.
 ghost use Rattle.std.specs.Prelude.{◌≡◌};
 ghost use Rattle.grammar.specs.Language.{Reads, Many};
-ghost use Rattle.sql_cells.specs.Spelling.{is_letter, Inner, Opened, Quoted, Text};
+ghost use Rattle.sql_cells.specs.Spelling.{is_escape_letter, Inner, Opened, Quoted, Text};
 
 use crate::special::plain_until;
 use grammar::{after, read_fixed};
 
 #[inline]
 fn is_letter(byte: u8) -> bool
-    ensures { result ≡ is_letter byte }
+    ensures { result ≡ is_escape_letter byte }
 {
     match byte {
         b'0' | b'b' | b'n' | b'r' | b'Z' | b'"' | b'\'' | b'\\' => true,

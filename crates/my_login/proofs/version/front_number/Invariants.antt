@@ -1,6 +1,6 @@
 -- the number that the digits so far spell
 use Rattle.std.proofs.Common.{◌≡◌, ◌<◌, ◌^◌, take}
-use Rattle.wire_forms.specs.Version.{digits_value}
+use Rattle.plain_data.specs.Byte.{digits_value}
 use Rattle.my_login.proofs.version.front_number.Given as goal
 
 abbrev pub invariant-loop-i : goal.invariant-loop-i

@@ -1,6 +1,6 @@
 use Rattle.std.proofs.Common.{◌≡◌, ◌+◌, drop}
 use Rattle.std.specs.List.{prefix_len}
-use Rattle.object_forms.specs.Shape.{is_digit}
+use Rattle.plain_data.specs.Byte.{is_digit}
 use Rattle.object_texts.proofs.counter.digits.Given as goal
 
 abbrev pub invariant-loop-i : goal.invariant-loop-i

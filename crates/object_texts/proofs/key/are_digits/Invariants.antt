@@ -1,6 +1,6 @@
 use Rattle.std.proofs.Common.{◌≡◌, drop}
 use Rattle.std.specs.List.{list_all}
-use Rattle.object_forms.specs.Shape.{is_digit}
+use Rattle.plain_data.specs.Byte.{is_digit}
 use Rattle.object_texts.proofs.key.are_digits.Given as goal
 
 abbrev pub invariant-loop-byte : goal.invariant-loop-byte

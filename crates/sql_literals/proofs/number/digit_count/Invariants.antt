@@ -1,6 +1,6 @@
 use Rattle.std.proofs.Common.{◌≡◌, ◌+◌, drop}
 use Rattle.std.specs.List.{prefix_len}
-use Rattle.sql_cells.specs.Number.{is_digit}
+use Rattle.plain_data.specs.Byte.{is_digit}
 use Rattle.sql_literals.proofs.number.digit_count.Given as goal
 
 abbrev pub invariant-loop-i : goal.invariant-loop-i

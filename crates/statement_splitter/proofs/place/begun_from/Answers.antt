@@ -1,5 +1,5 @@
 use Rattle.std.proofs.Common.{◌≡◌, arith, sym, ap, ◌∙◌, Some, inl, inr}
-use Rattle.statement_splitter.specs.Pieces.{begun, last}
+use Rattle.statement_splitter.specs.Pieces.{begun_size, last}
 use Rattle.statement_splitter.specs.State.{unread_at}
 use Rattle.statement_splitter.proofs.Places.{given}
 use Rattle.statement_splitter.proofs.Wholes.{onward_now, gives_now, last_after, last_same, last_unended, last_waiting, last_none}
@@ -28,16 +28,16 @@ returns-in-Unended c =
     let old = unread_at c.args.bytes.now c.pieces.now in
     let there = unread_at c.args.bytes.now c.find.new.place in
     let same = c.pieces.invariant.same ∙ last_same old there (onward_now old there c.find.ensures.onward) in
-    let here : begun (last there) ≡ Some c.find.new.place.offset =
+    let here : begun_size (last there) ≡ Some c.find.new.place.offset =
     elim c.in-Unended.is [
       | inl is ↦ last_unended there (rw is at c.find.ensures).stands.0
       | inr is ↦ last_waiting there (rw is at c.find.ensures).stands.0
     ] in
-    sym (ap begun same ∙ here)
+    sym (ap begun_size same ∙ here)
 
 pub returns-in-Nothing : goal.returns-in-Nothing
 returns-in-Nothing c =
     let finds = rw c.in-Nothing.is at c.find.ensures in
     let old = unread_at c.args.bytes.now c.pieces.now in
     let there = unread_at c.args.bytes.now c.find.new.place in
-    sym (ap begun (c.pieces.invariant.same ∙ last_same old there (onward_now old there finds.onward)) ∙ last_none there finds.stands)
+    sym (ap begun_size (c.pieces.invariant.same ∙ last_same old there (onward_now old there finds.onward)) ∙ last_none there finds.stands)

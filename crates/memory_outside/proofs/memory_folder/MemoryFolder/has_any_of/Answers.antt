@@ -1,6 +1,6 @@
 use Rattle.std.proofs.Common.{◌≡◌, false, sym, ◌∙◌, ap, subst}
 use Rattle.std.specs.List.{flat_map, list_any}
-use Rattle.link_traits.specs.Contents.{AreApart, has_name}
+use Rattle.link_traits.specs.Contents.{ShareNoName, has_name}
 use Rattle.memory_outside.proofs.Names.{none_apart}
 use Rattle.memory_outside.proofs.Parts.{list_any-parts}
 use Rattle.memory_outside.proofs.memory_folder.MemoryFolder.has_any_of.Goals as goal
