@@ -1,5 +1,5 @@
 -- Files of which no two have one name.
-use Rattle.std.proofs.Common.{◌≡◌, ℕ, Bool, true, false, ◌||◌, cond, nat_eq, Decides, Contains, ◌<◌, length, get_or, append-nil, Result, Ok, Err, OnOk, OnErr, Option, Some, None, IfSome, List, [], ◌∷◌, ◌++◌, refl, sym, ap, ◌∙◌, subst, arith}
+use Rattle.std.proofs.Common.{◌≡◌, ℕ, true, false, ◌||◌, nat_eq, Decides, Contains, get_or, append-nil, Result, Ok, Err, OnOk, OnErr, Option, Some, None, IfSome, List, [], ◌∷◌, ◌++◌, refl, sym, ap, ◌∙◌, subst, arith}
 use Rattle.std.specs.Cmp.Lexicographic.{pointwise}
 use Rattle.std.proofs.lemmas.List.Elements.{Contains-append_right}
 use Rattle.std.specs.List.{list_any, flat_map}

@@ -118,7 +118,8 @@ impl MemoryFolder {
     /// Whether one of the files that the shelf has made has the name of a file that is here. Takes no
     /// memory.
     pub fn has_any_of(&self, shelf: &MemoryShelf) -> bool
-        ensures { result ≡ false → ShareNoName shelf.now.made self.now.contents }
+        ensures is { result ≡ list_any (λ file. has_name file.name shelf.now.made) self.now.contents }
+        ensures apart { result ≡ false → ShareNoName shelf.now.made self.now.contents }
     {
         has_any(self.parts.as_slice(), shelf)
     }

@@ -1,5 +1,5 @@
 //! Bytes with reserved room.
-ghost use Rattle.std.specs.Prelude.{◌≡◌, ◌+◌, ◌<◌, ◌≤◌, [], ◌∷◌, ◌++◌, length, IsOk, OnOk, OnErr};
+ghost use Rattle.std.specs.Prelude.{◌≡◌, ◌+◌, ◌<◌, ◌≤◌, [], ◌∷◌, ◌++◌, length, IfOk, IsOk, OnOk, OnErr};
 
 use crate::memory::OutOfMemory;
 use std::alloc::Global;
@@ -35,6 +35,20 @@ impl Buffer {
             store: Vec::new(alloc),
             cursor: 0,
         }
+    }
+
+    /// A buffer of no bytes, with room for so many. It is refused only for want of memory; a buffer
+    /// without room takes none.
+    pub fn with_room(alloc: Global, room: usize) -> Result<Buffer, OutOfMemory>
+        ensures ok { IfOk result (λ made. made ≡ record { bytes = []; spare = room }) }
+        ensures none { room ≡ 0 → IsOk result }
+    {
+        let mut made = Buffer::new(alloc);
+        if 0 < room {
+            made.store.reserve_exact(room)?;
+            made.store.resize(room, 0)?;
+        }
+        Ok(made)
     }
 
     /// Makes room for `more` further bytes, if there isn't yet. It is refused only for want of

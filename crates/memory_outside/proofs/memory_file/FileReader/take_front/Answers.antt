@@ -1,4 +1,3 @@
-use Rattle.std.proofs.Common.{◌≡◌, length, take, drop, ◌-◌, min, sym}
 use Rattle.memory_outside.proofs.Taken.{front_taken}
 use Rattle.memory_outside.proofs.memory_file.FileReader.take_front.Goals as goal
 

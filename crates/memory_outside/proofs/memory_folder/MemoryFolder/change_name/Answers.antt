@@ -1,6 +1,5 @@
 use Rattle.std.proofs.Common.{◌≡◌, string_bytes, rules}
 use Rattle.std.specs.List.{flat_map}
-use Rattle.link_traits.specs.Contents.{HaveOwnNames}
 use Rattle.memory_outside.proofs.Names.{own_names_moved}
 use Rattle.memory_outside.proofs.memory_folder.MemoryFolder.change_name.Goals as goal
 

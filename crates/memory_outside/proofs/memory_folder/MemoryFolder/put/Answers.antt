@@ -1,4 +1,4 @@
-use Rattle.std.proofs.Common.{◌≡◌, ◌≤◌, ◌+◌, sym, subst, rules}
+use Rattle.std.proofs.Common.{sym, subst, rules}
 use Rattle.link_traits.specs.Contents.{HaveOwnNames}
 use Rattle.memory_outside.proofs.Names.{own_names_with_file, own_names_put}
 use Rattle.memory_outside.proofs.memory_folder.MemoryFolder.put.Goals as goal

@@ -1,4 +1,4 @@
-use Rattle.std.proofs.Common.{◌≡◌, ◌++◌, ◌∷◌, [], subst, sym, rules}
+use Rattle.std.proofs.Common.{rules}
 use Rattle.std.specs.List.{flat_map}
 use Rattle.link_traits.specs.Contents.{HaveOwnNames, ShareNoName}
 use Rattle.memory_outside.proofs.Names.{own_names_part}

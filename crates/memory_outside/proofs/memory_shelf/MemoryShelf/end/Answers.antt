@@ -1,4 +1,4 @@
-use Rattle.std.proofs.Common.{◌≡◌, ◌++◌, ◌∷◌, [], Some, sym, ◌∙◌, ap}
+use Rattle.std.proofs.Common.{◌≡◌, ◌++◌, ◌∷◌, [], sym, ◌∙◌, ap}
 use Rattle.memory_outside.proofs.Names.{own_names_ended}
 use Rattle.memory_outside.proofs.memory_shelf.MemoryShelf.end.Goals as goal
 
