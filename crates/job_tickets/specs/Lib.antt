@@ -1,0 +1,4 @@
+pub mod Dealt
+pub mod Lending
+pub mod Rule
+pub mod Seats

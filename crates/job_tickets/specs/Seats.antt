@@ -1,0 +1,42 @@
+-- What callers see of a deal and of its seats.
+use Rattle.std.specs.Prelude.{◌≡◌, ℕ, List, [], length, map, replicate, All}
+use Rattle.atomic_table.specs.Seated.{TableId}
+use Rattle.atomic_table.specs.declared.shared.Seat.{Seat}
+use Rattle.job_tickets.specs.Dealt.{AreDealt}
+use Rattle.job_tickets.specs.declared.holding.Holding.{Holding}
+
+-- which deal it is, and how many seats it was made for
+pub record DealState : Type 0 where
+  pub deal : TableId
+  pub seats : ℕ
+
+-- of which deal the seat is, and the numbers that it drew, in their order
+pub record SeatState : Type 0 where
+  pub deal : TableId
+  pub drawn : List ℕ
+
+-- a seat of this deal that drew nothing
+abbrev pub fresh_seat : TableId → SeatState
+fresh_seat deal = record { deal = deal; drawn = [] }
+
+-- a deal that was made for so many seats, and its seats, which drew nothing yet
+pub record IsFresh (count : ℕ) (deal : DealState) (seats : List SeatState) : Type 0 where
+  pub for_seats : deal.seats ≡ count
+  pub seats_are : seats ≡ replicate count (fresh_seat deal.deal)
+
+-- the seats are as many as those of the deal, and each is of the deal
+pub record AreOf (deal : DealState) (seats : List SeatState) : Type 0 where
+  pub all_there : length seats ≡ deal.seats
+  pub of_deal : All (λ seat. seat.deal ≡ deal.deal) seats
+
+-- the seats drew the numbers below the count, each once
+abbrev pub DrewEach : ℕ → List SeatState → Type 0
+DrewEach count seats = AreDealt count (map (λ seat. seat.drawn) seats)
+
+-- the seat from which others are cut off, or into which others are taken: it is of the deal, and has
+-- this share and these numbers
+pub record Holds (deal : TableId) (share : ℕ) (drawn : List ℕ) (seat : Seat (Unit {0}) Holding) : Type 0 where
+  pub of_deal : seat.table_id ≡ deal
+  pub has_share : seat.me.0.share ≡ share
+  pub has_drawn : seat.me.0.drawn ≡ drawn
+  pub takes_no_slot : seat.me.1 ≡ []
