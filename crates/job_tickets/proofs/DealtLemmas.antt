@@ -4,7 +4,7 @@ use Rattle.std.proofs.lemmas.Bool.Decides.{nat_tests}
 use Rattle.std.proofs.lemmas.List.Sums.{sum_by-cons, sum_by-append, sum_by_push, get_or-le-sum_by, count_by-le-length}
 use mathlib.Core.Option.{some, some-injective, some-ne-none}
 use lib.ListN.{get_elem?}
-use Rattle.job_tickets.specs.Dealt.{times, once_below}
+use Rattle.job_tickets.specs.Dealt.{times, once_below, JobsAreDrawnOnce}
 
 module _ {X : Type 0} (f : X → ℕ) where
   -- a sum after one member became another
@@ -83,3 +83,18 @@ once-more count number = grind (arith, nat_tests)
 -- a number that stands once at least is below
 pub once-is-below : (count number : ℕ) → 1 ≤ once_below count number → number < count
 once-is-below count number there = grind (arith, nat_tests)
+
+-- a number below stands once
+once-below-is : (count number : ℕ) → number < count → once_below count number ≡ 1
+once-below-is count number below = grind (arith, nat_tests)
+
+pub jobs_drawn_once : JobsAreDrawnOnce
+jobs_drawn_once count jobs place lists drawn dealt at past job below =
+    let last = get_or drawn past.place 0 in
+    let dealt_last : last < count = once-is-below count last (omega (
+      arith,
+      times-here drawn past.place 0 past.there,
+      member-le-sum (times last) lists place drawn at,
+      dealt last,
+    )) in
+    dealt job ∙ once-below-is count job (omega (arith, past.past))

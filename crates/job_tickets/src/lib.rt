@@ -11,10 +11,12 @@
 
 mod deal;
 mod holding;
+mod laws;
 mod rule;
 mod seat;
 mod seat_list;
 
 pub use deal::Deal;
+pub use laws::jobs_are_drawn_once;
 pub use seat::DealSeat;
 pub use seat_list::DealSeatList;
