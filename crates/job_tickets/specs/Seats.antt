@@ -5,18 +5,22 @@ use Rattle.atomic_table.specs.declared.shared.Seat.{Seat}
 use Rattle.job_tickets.specs.Dealt.{AreDealt}
 use Rattle.job_tickets.specs.declared.holding.Holding.{Holding}
 
+-- which deal it is; no two are the same
+abbrev pub DealId : Type 0
+DealId = TableId
+
 -- which deal it is, and how many seats it was made for
 pub record DealState : Type 0 where
-  pub deal : TableId
+  pub deal : DealId
   pub seats : ℕ
 
 -- of which deal the seat is, and the numbers that it drew, in their order
 pub record SeatState : Type 0 where
-  pub deal : TableId
+  pub deal : DealId
   pub drawn : List ℕ
 
 -- a seat of this deal that drew nothing
-abbrev pub fresh_seat : TableId → SeatState
+abbrev pub fresh_seat : DealId → SeatState
 fresh_seat deal = record { deal = deal; drawn = [] }
 
 -- a deal that was made for so many seats, and its seats, which drew nothing yet
@@ -35,7 +39,7 @@ DrewEach count seats = AreDealt count (map (λ seat. seat.drawn) seats)
 
 -- the seat from which others are cut off, or into which others are taken: it is of the deal, and has
 -- this share and these numbers
-pub record Holds (deal : TableId) (share : ℕ) (drawn : List ℕ) (seat : Seat (Unit {0}) Holding) : Type 0 where
+pub record Holds (deal : DealId) (share : ℕ) (drawn : List ℕ) (seat : Seat (Unit {0}) Holding) : Type 0 where
   pub of_deal : seat.table_id ≡ deal
   pub has_share : seat.me.0.share ≡ share
   pub has_drawn : seat.me.0.drawn ≡ drawn

@@ -1,11 +1,10 @@
 //! Threads that draw the numbers of jobs from one deal.
-ghost use Rattle.std.specs.Prelude.{◌≡◌, ◌<◌, ◌≤◌, ◌^◌, [], length, replicate, All, IfOk};
-ghost use Rattle.job_tickets.specs.Dealt.{IsPast};
-ghost use Rattle.job_tickets.specs.Seats.{fresh_seat};
-ghost use Rattle.ticket_tests.specs.Shared.{WentPast, AreSharedOut};
+ghost use Rattle.std.specs.Prelude.{◌≡◌, ◌<◌, ◌≤◌, ◌^◌, length, vec_len, IfOk};
+ghost use Rattle.job_tickets.specs.Seats.{fresh_seat, IsFresh};
+ghost use Rattle.ticket_tests.specs.Shared.{WentPast, AllWentPast, AreSharedOut};
 
 use crate::words::said;
-use job_tickets::{Deal, DealSeat};
+use job_tickets::{Deal, DealSeat, DealSeatList};
 use plain_data::OutOfMemory;
 use std::alloc::Global;
 use std::sync::atomic::AtomicU64;
@@ -24,10 +23,7 @@ pub fn drawn_by_threads<R: Threads + Sync>(
     if seats < 1 || seats > 64 || jobs >= 1 << 32 {
         return said(alloc, "not from 1 to 64 seats, or too many jobs");
     }
-    let mut marks = Vec::new(alloc);
-    for _ in 0..jobs {
-        marks.push(AtomicU64::new(0))?;
-    }
+    let marks = marks_for(alloc, jobs)?;
     let count = shared_out(rt, alloc, seats as u32, marks.as_slice())?;
     let mut once: u64 = 0;
     for mark in marks.as_slice() {
@@ -38,9 +34,19 @@ pub fn drawn_by_threads<R: Threads + Sync>(
     Ok(format!(in alloc; "{once} jobs once, {count} drawn")?)
 }
 
-/// Threads share out jobs, of which each has a mark that counts how often it is done, and answer how many
-/// numbers they drew. From 1 to 64 seats and fewer than 2^32 jobs may be asked for. It is refused only
-/// for want of memory.
+// A mark for each of so many jobs.
+fn marks_for(alloc: Global, jobs: u64) -> Result<Vec<AtomicU64>, OutOfMemory>
+    ensures { IfOk result (λ marks. vec_len marks ≡ jobs) }
+{
+    let mut marks = Vec::new(alloc);
+    for _ in 0..jobs {
+        marks.push(AtomicU64::new(0))?;
+    }
+    Ok(marks)
+}
+
+// Threads share out jobs, of which each has a mark that counts how often it is done, and answer how many
+// numbers they drew. It is refused only for want of memory.
 fn shared_out<R: Threads + Sync>(
     rt: &R,
     alloc: Global,
@@ -53,25 +59,48 @@ fn shared_out<R: Threads + Sync>(
     ensures { IfOk result (λ count. AreSharedOut seats (length marks.now) count) }
 {
     let (deal, mut list) = Deal::new(alloc, seats)?;
-    work_in_threads(rt, &deal, list.as_mut_slice(), marks);
+    work_with_list(rt, &deal, &mut list, marks);
     Ok(deal.close(list))
 }
 
-// Each seat's thread works.
+// Each seat of the list works.
+fn work_with_list<R: Threads + Sync>(
+    rt: &R,
+    deal: &Deal,
+    list: &mut DealSeatList,
+    marks: &[AtomicU64],
+)
+    requires fresh { IsFresh deal.now.seats deal.now list.old }
+    requires jobs { length marks.now < 2 ^ 32 }
+    ensures { AllWentPast deal.now (length marks.now) list.new }
+{
+    work_in_threads(rt, deal, list.as_mut_slice(), marks);
+}
+
+// Each seat works, in a thread of its own where there is one.
 fn work_in_threads<R: Threads + Sync>(
     rt: &R,
     deal: &Deal,
     seats: &mut [DealSeat],
     marks: &[AtomicU64],
 )
-    requires fresh { All (λ seat. seat ≡ fresh_seat deal.now.deal) seats.old }
+    requires fresh { IsFresh deal.now.seats deal.now seats.old }
     requires jobs { length marks.now < 2 ^ 32 }
-    ensures { All (WentPast deal.now.deal (length marks.now)) seats.new }
+    ensures { AllWentPast deal.now (length marks.now) seats.new }
 {
-    thread::for_each_mut(rt, seats, 64, &|_, seat| work(deal, seat, marks));
+    thread::for_each_mut(
+        rt,
+        seats,
+        64,
+        &|_: usize, seat: &mut DealSeat|
+            requires { (seat.old ≡ fresh_seat deal.now.deal) × (length marks.now < 2 ^ 32) }
+            ensures { WentPast deal.entry.now.deal (length marks.entry.now) seat.new }
+        { work(deal, seat, marks) },
+    );
 }
 
 // Draws, and does the job of each number, until a number is past the last job.
+#[tactic(auto, using(crate::proofs::Past::went_past))]
 fn work(deal: &Deal, seat: &mut DealSeat, marks: &[AtomicU64])
     requires fresh { seat.old ≡ fresh_seat deal.now.deal }
     requires jobs { length marks.now < 2 ^ 32 }

@@ -1,4 +1,4 @@
-use Rattle.std.proofs.Common.{◌≡◌, ℕ, ◌+◌, List, [], length, map, sum_by, All}
+use Rattle.std.proofs.Common.{◌≡◌, ℕ, ◌+◌, length, map, sum_by, All}
 use Rattle.job_tickets.specs.Dealt.{times}
 use Rattle.job_tickets.specs.Seats.{Holds}
 use Rattle.job_tickets.proofs.deal.Deal.all_as_one.Given as goal
