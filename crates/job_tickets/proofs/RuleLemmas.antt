@@ -7,7 +7,7 @@ use Rattle.atomic_table.specs.Table.{State, Me, step, keeps, Allows, Splits, Joi
 use Rattle.atomic_table.proofs.Lists.{at_set, at_snoc, set_else}
 use Rattle.job_tickets.specs.declared.holding.Holding.{Holding}
 use Rattle.job_tickets.specs.Dealt.{times, once_below}
-use Rattle.job_tickets.specs.Rule.{holding, word_of, KeepsTickets, HasDrawn, without_one, one_share, both_holdings, spent}
+use Rattle.job_tickets.specs.Rule.{holding_of, word_of, KeepsTickets, HasDrawn, without_one, one_share, both_holdings, spent}
 use Rattle.job_tickets.proofs.DealtLemmas.{sum-set, member-le-sum, sum-le, others-le, times-push, times-append, times-here, once-more, once-is-below}
 
 abbrev DealTable : Type 0
@@ -56,7 +56,7 @@ pub draws : (seats slots place : ℕ) (seat : Me (Unit {0}) Holding) → seat.0.
 draws seats slots place seat one few state rule homes at fits =
     let found = word_of state in
     let old = seat.0 in
-    let new = holding old.share (old.drawn ++ found ∷ []) in
+    let new = holding_of old.share (old.drawn ++ found ∷ []) in
     let views = set state.views place new in
     let longer : length new.drawn ≡ length old.drawn + 1 = length-append old.drawn (found ∷ []) in
     let room : HaveRoom views = room-set state.views place new rule.room (omega arith) in

@@ -2,3 +2,4 @@ pub mod Dealt
 pub mod Lending
 pub mod Rule
 pub mod Seats
+pub mod Shares

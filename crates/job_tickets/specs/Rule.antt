@@ -7,12 +7,12 @@ use Rattle.job_tickets.specs.Dealt.{times, once_below}
 use Rattle.job_tickets.specs.declared.holding.Holding.{Holding}
 
 -- a seat with this share, which drew these numbers
-abbrev pub holding : ℕ → List ℕ → Holding
-holding share drawn = record { share = share; drawn = drawn }
+abbrev pub holding_of : ℕ → List ℕ → Holding
+holding_of share drawn = record { share = share; drawn = drawn }
 
 -- the first seat: it stands for all, and drew nothing
 abbrev pub opening_holding : ℕ → Holding
-opening_holding seats = holding seats []
+opening_holding seats = holding_of seats []
 
 -- the next number
 abbrev pub word_of : State (Unit {0}) Holding → ℕ
@@ -34,23 +34,23 @@ pub record KeepsTickets (seats : ℕ) (state : State (Unit {0}) Holding) : Type 
 -- a draw: the number that was found is added to the seat's own, and is greater than all of them
 pub record HasDrawn (step : Step (Unit {0})) (before : Me (Unit {0}) Holding) (found : ℕ)
     (after : Me (Unit {0}) Holding) : Type 0 where
-  pub added : after ≡ (holding before.0.share (before.0.drawn ++ found ∷ []), before.1)
+  pub added : after ≡ (holding_of before.0.share (before.0.drawn ++ found ∷ []), before.1)
   pub greater : All (λ number. number < found) before.0.drawn
   pub at_least : length before.0.drawn ≤ found
   pub below : found < 2 ^ 38
 
 -- the seat after one share is cut off
 abbrev pub without_one : Holding → Holding
-without_one seat = holding (seat.share - 1) seat.drawn
+without_one seat = holding_of (seat.share - 1) seat.drawn
 
 -- the seat that is cut off
 abbrev pub one_share : Holding → Holding
-one_share seat = holding 1 []
+one_share seat = holding_of 1 []
 
 -- two seats as one
 abbrev pub both_holdings : Holding → Holding → Holding
-both_holdings one other = holding (one.share + other.share) (one.drawn ++ other.drawn)
+both_holdings one other = holding_of (one.share + other.share) (one.drawn ++ other.drawn)
 
 -- a seat that was put together with another
 abbrev pub spent : Holding
-spent = holding 0 []
+spent = holding_of 0 []

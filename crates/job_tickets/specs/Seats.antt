@@ -1,9 +1,7 @@
 -- What callers see of a deal and of its seats.
-use Rattle.std.specs.Prelude.{◌≡◌, ℕ, List, [], length, map, replicate, All}
+use Rattle.std.specs.Prelude.{◌≡◌, ℕ, List, [], ◌∷◌, ◌++◌, length, map, replicate, All, Option, MatchOption}
 use Rattle.atomic_table.specs.Seated.{TableId}
-use Rattle.atomic_table.specs.declared.shared.Seat.{Seat}
 use Rattle.job_tickets.specs.Dealt.{AreDealt}
-use Rattle.job_tickets.specs.declared.holding.Holding.{Holding}
 
 -- which deal it is; no two are the same
 abbrev pub DealId : Type 0
@@ -37,10 +35,10 @@ pub record AreOf (deal : DealState) (seats : List SeatState) : Type 0 where
 abbrev pub DrewEach : ℕ → List SeatState → Type 0
 DrewEach count seats = AreDealt count (map (λ seat. seat.drawn) seats)
 
--- the seat from which others are cut off, or into which others are taken: it is of the deal, and has
--- this share and these numbers
-pub record Holds (deal : DealId) (share : ℕ) (drawn : List ℕ) (seat : Seat (Unit {0}) Holding) : Type 0 where
-  pub of_deal : seat.table_id ≡ deal
-  pub has_share : seat.me.0.share ≡ share
-  pub has_drawn : seat.me.0.drawn ≡ drawn
-  pub takes_no_slot : seat.me.1 ≡ []
+-- the seat after it drew this number
+abbrev pub after_draw : SeatState → ℕ → SeatState
+after_draw seat number = record { deal = seat.deal; drawn = seat.drawn ++ number ∷ [] }
+
+-- the last seat is taken out of the list, and none where there is none
+abbrev pub TakesLast : List SeatState → List SeatState → Option SeatState → Type 0
+TakesLast old new taken = MatchOption taken ((old ≡ []) × (new ≡ [])) (λ seat. old ≡ new ++ seat ∷ [])

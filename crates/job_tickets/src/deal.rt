@@ -1,7 +1,8 @@
 //! A deal, from which seats draw.
-ghost use Rattle.std.specs.Prelude.{◌≡◌, ℕ, ◌+◌, ◌-◌, ◌<◌, ◌≤◌, ◌^◌, ◌∷◌, ◌++◌, [], length, map, replicate, sum_by, All, IfOk};
+ghost use Rattle.std.specs.Prelude.{◌≡◌, ℕ, ◌+◌, ◌-◌, ◌<◌, ◌≤◌, ◌^◌, ◌++◌, [], length, map, replicate, sum_by, All, IfOk};
 ghost use Rattle.job_tickets.specs.Dealt.{times};
-ghost use Rattle.job_tickets.specs.Seats.{fresh_seat, IsFresh, Holds, AreOf, DrewEach};
+ghost use Rattle.job_tickets.specs.Seats.{fresh_seat, IsFresh, AreOf, DrewEach, after_draw};
+ghost use Rattle.job_tickets.specs.Shares.{StandsFor};
 
 use crate::holding::Holding;
 use crate::rule::{Draw, OneShare, Tickets, Together};
@@ -19,14 +20,15 @@ pub struct Deal {
 }
 
 impl Model for Deal {
-    ghost use Rattle.std.specs.Prelude.{◌≡◌, ◌≤◌};
+    ghost use Rattle.std.specs.Prelude.{◌≤◌};
     ghost use Rattle.job_tickets.specs.Seats.{DealState};
+    ghost use Rattle.job_tickets.specs.Shares.{HasOneWord};
 
     ghost Value = { DealState };
 
     ghost view = { λ d. record { deal = d.table.shared.table_id; seats = d.table.shared.key } };
 
-    ghost invariant = { λ d. (d.table.shared.table_id.words ≡ 1) × (d.table.shared.table_id.slots ≡ 0) × (1 ≤ d.table.shared.key) };
+    ghost invariant = { λ d. HasOneWord d.table.shared.table_id × (1 ≤ d.table.shared.key) };
 }
 
 impl Deal {
@@ -50,7 +52,7 @@ impl Deal {
         count: u32,
     ) -> Result<DealSeatList, OutOfMemory>
         requires some { 1 ≤ count }
-        requires rest { Holds self.now.deal count [] rest }
+        requires rest { StandsFor self.now.deal count [] rest }
         ensures { IfOk result (λ seats. seats ≡ replicate count (fresh_seat self.now.deal)) }
     {
         let mut seats = DealSeatList::new(alloc);
@@ -66,9 +68,9 @@ impl Deal {
 
     // A seat that is cut off one which drew nothing and stands for two at least.
     fn seat_from(&self, rest: &mut Seat<(), Holding>) -> DealSeat
-        requires rest { Holds self.now.deal rest.old.me.0.share [] rest.old }
+        requires rest { StandsFor self.now.deal rest.old.me.0.share [] rest.old }
         requires two { 2 ≤ rest.old.me.0.share }
-        ensures rest { Holds self.now.deal (rest.old.me.0.share - 1) [] rest.new }
+        ensures rest { StandsFor self.now.deal (rest.old.me.0.share - 1) [] rest.new }
         ensures seat { result ≡ fresh_seat self.now.deal }
     {
         DealSeat {
@@ -84,7 +86,7 @@ impl Deal {
     pub fn draw(&self, seat: &mut DealSeat) -> u64
         requires of_deal { seat.old.deal ≡ self.now.deal }
         requires room { length seat.old.drawn < 2 ^ 32 }
-        ensures seat { seat.new ≡ record { deal = self.now.deal; drawn = seat.old.drawn ++ result ∷ [] } }
+        ensures seat { seat.new ≡ after_draw seat.old result }
         ensures greater { All (λ number. number < result) seat.old.drawn }
         ensures at_least { length seat.old.drawn ≤ result }
         ensures below { result < 2 ^ 38 }
@@ -95,9 +97,10 @@ impl Deal {
 
     // Takes a seat in to another.
     fn take_in(&self, all: &mut Seat<(), Holding>, other: DealSeat)
-        requires all { Holds self.now.deal all.old.me.0.share all.old.me.0.drawn all.old }
+        requires all { StandsFor self.now.deal all.old.me.0.share all.old.me.0.drawn all.old }
         requires other { other.deal ≡ self.now.deal }
-        ensures { Holds self.now.deal (all.old.me.0.share + 1) (all.old.me.0.drawn ++ other.drawn) all.new }
+        ensures { StandsFor self.now.deal (all.old.me.0.share + 1)
+            (all.old.me.0.drawn ++ other.drawn) all.new }
     {
         let DealSeat { seat, count: _ } = other;
         self.table.shared.join_seat::<Together>(all, seat);
@@ -107,7 +110,7 @@ impl Deal {
     fn all_as_one(&self, mut seats: DealSeatList) -> Seat<(), Holding>
         requires some { 0 < length seats }
         requires of_deal { All (λ seat. seat.deal ≡ self.now.deal) seats }
-        ensures whole { Holds self.now.deal (length seats) result.me.0.drawn result }
+        ensures whole { StandsFor self.now.deal (length seats) result.me.0.drawn result }
         ensures drawn { (number : ℕ) → times number result.me.0.drawn
             ≡ sum_by (times number) (map (λ seat. seat.drawn) seats) }
     {

@@ -21,7 +21,8 @@ impl Model for DealSeat {
 
     ghost view = { λ s. record { deal = s.seat.table_id; drawn = s.seat.me.0.drawn } };
 
-    ghost invariant = { λ s. (s.seat.me.0.share ≡ 1) × (s.seat.me.1 ≡ []) × (s.count ≡ length s.seat.me.0.drawn) };
+    ghost invariant = { λ s.
+        (s.seat.me.0.share ≡ 1) × (s.seat.me.1 ≡ []) × (s.count ≡ length s.seat.me.0.drawn) };
 }
 
 impl DealSeat {

@@ -1,7 +1,8 @@
 //! The seats of a deal, as a list.
-ghost use Rattle.std.specs.Prelude.{◌≡◌, ◌∷◌, ◌++◌, [], Some, None, OnOk, OnErr, MatchOption};
+ghost use Rattle.std.specs.Prelude.{◌≡◌, ◌∷◌, ◌++◌, [], OnOk, OnErr};
 ghost use Rattle.std.specs.Borrow.{sem};
 ghost use Rattle.job_tickets.specs.Lending.{lends_seats};
+ghost use Rattle.job_tickets.specs.Seats.{TakesLast};
 
 use crate::seat::DealSeat;
 use plain_data::OutOfMemory;
@@ -59,7 +60,7 @@ impl DealSeatList {
 
     /// Takes the last seat out, if there is one. Takes no memory.
     pub fn pop(&mut self) -> Option<DealSeat>
-        ensures { MatchOption result ((self.old ≡ []) × (self.new ≡ [])) (λ seat. self.old ≡ self.new ++ seat ∷ []) }
+        ensures { TakesLast self.old self.new result }
     {
         self.items.pop()
     }

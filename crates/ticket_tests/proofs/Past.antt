@@ -1,7 +1,7 @@
 -- Seats that went past the last job.
 use Rattle.std.proofs.Common.{◌≡◌, ℕ, ◌+◌, ◌<◌, ◌≤◌, List, [], ◌∷◌, ◌++◌, length, map, replicate, get_or, take, drop, sym, refl, ap, ◌∙◌, subst, arith, length-append}
 use Rattle.std.proofs.lemmas.List.{length-map}
-use Rattle.job_tickets.specs.Seats.{DealId, DealState, SeatState, AreOf, DrewEach}
+use Rattle.job_tickets.specs.Seats.{DealId, DealState, SeatState, AreOf, DrewEach, after_draw}
 use Rattle.job_tickets.specs.Dealt.{IsPast}
 use Rattle.job_tickets.proofs.DealtLemmas.{jobs_drawn_once}
 use Rattle.ticket_tests.specs.Shared.{WentPast, AllWentPast, AreSharedOut}
@@ -12,14 +12,14 @@ last-is [] number = refl
 last-is (x ∷ drawn) number = last-is drawn number
 
 -- a seat that drew a number past the last job
-pub went_past : (deal : DealId) (jobs number : ℕ) (drawn : List ℕ) (seat : SeatState)
-    → seat ≡ record { deal = deal; drawn = drawn ++ number ∷ [] } → jobs ≤ number → WentPast deal jobs seat
-went_past deal jobs number drawn seat is past = record {
-  of_deal = ap (λ (s : SeatState). s.deal) is;
+pub went_past : (deal : DealId) (jobs number : ℕ) (old new : SeatState) → new ≡ after_draw old number
+    → old.deal ≡ deal → jobs ≤ number → WentPast deal jobs new
+went_past deal jobs number old new is of_deal past = record {
+  of_deal = ap (λ (s : SeatState). s.deal) is ∙ of_deal;
   past = subst (λ (s : SeatState). IsPast jobs s.drawn) (sym is) (record {
-    place = length drawn;
-    there = omega (arith, length-append drawn (number ∷ []));
-    past = subst (λ (n : ℕ). jobs ≤ n) (sym (last-is drawn number)) past;
+    place = length old.drawn;
+    there = omega (arith, length-append old.drawn (number ∷ []));
+    past = subst (λ (n : ℕ). jobs ≤ n) (sym (last-is old.drawn number)) past;
   });
 }
 
