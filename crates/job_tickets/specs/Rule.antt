@@ -25,7 +25,8 @@ pub record KeepsTickets (seats : ℕ) (state : State (Unit {0}) Holding) : Type 
   pub few : seats ≤ 64
   pub one_word : length state.words ≡ 1
   pub once : (number : ℕ) →
-      sum_by (λ (seat : Holding). times number seat.drawn) state.views ≡ once_below (word_of state) number
+      sum_by (λ (seat : Holding). times number seat.drawn) state.views
+      ≡ once_below (word_of state) number
   pub counted : sum_by (λ (seat : Holding). length seat.drawn) state.views ≡ word_of state
   pub shares : sum_by (λ (seat : Holding). seat.share) state.views ≡ seats
   pub room : (place : ℕ) (seat : Holding) → get_elem? state.views place ≡ some seat

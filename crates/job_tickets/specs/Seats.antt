@@ -3,7 +3,7 @@ use Rattle.std.specs.Prelude.{◌≡◌, ℕ, List, [], ◌∷◌, ◌++◌, len
 use Rattle.atomic_table.specs.Seated.{TableId}
 use Rattle.job_tickets.specs.Dealt.{AreDealt}
 
--- which deal it is; no two are the same
+-- which deal it is
 abbrev pub DealId : Type 0
 DealId = TableId
 
@@ -41,4 +41,5 @@ after_draw seat number = record { deal = seat.deal; drawn = seat.drawn ++ number
 
 -- the last seat is taken out of the list, and none where there is none
 abbrev pub TakesLast : List SeatState → List SeatState → Option SeatState → Type 0
-TakesLast old new taken = MatchOption taken ((old ≡ []) × (new ≡ [])) (λ seat. old ≡ new ++ seat ∷ [])
+TakesLast old new taken =
+    MatchOption taken ((old ≡ []) × (new ≡ [])) (λ seat. old ≡ new ++ seat ∷ [])

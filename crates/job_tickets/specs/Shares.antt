@@ -14,7 +14,8 @@ pub record HasOneWord (table : TableId) : Type 0 where
   pub no_slot : table.slots ≡ 0
 
 -- the seat is of the table, stands for so many seats of the deal, and drew these numbers
-pub record StandsFor (table : TableId) (share : ℕ) (drawn : List ℕ) (seat : TicketSeat) : Type 0 where
+pub record StandsFor (table : TableId) (share : ℕ) (drawn : List ℕ) (seat : TicketSeat)
+    : Type 0 where
   pub of_table : seat.table_id ≡ table
   pub has_share : seat.me.0.share ≡ share
   pub has_drawn : seat.me.0.drawn ≡ drawn
