@@ -28,4 +28,5 @@ JobsStandOnce jobs lists = (job : ℕ) → job < jobs → sum_by (times job) lis
 -- where a seat went on past the last job, each job's number was drawn by exactly one seat, once
 abbrev pub JobsAreDrawnOnce : Type 0
 JobsAreDrawnOnce = (count jobs place : ℕ) (lists : List (List ℕ)) (drawn : List ℕ)
-    → AreDealt count lists → get_elem? lists place ≡ some drawn → IsPast jobs drawn → JobsStandOnce jobs lists
+    → AreDealt count lists → get_elem? lists place ≡ some drawn → IsPast jobs drawn
+    → JobsStandOnce jobs lists
