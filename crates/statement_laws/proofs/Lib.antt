@@ -1,0 +1,9 @@
+pub mod Scans
+pub mod Marks
+pub mod Heads
+pub mod Same
+pub mod Latest
+pub mod CommandReads
+pub mod QueryReads
+pub mod Single
+pub mod Kept
