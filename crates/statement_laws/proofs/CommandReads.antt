@@ -19,7 +19,7 @@ time_zone_text : command_text TimeZoneUtc ≡ command_text (TimeZone (codes "+00
 unfolding command_text
 time_zone_text = refl
 
-no_row : ℕ → Bool
+abbrev no_row : ℕ → Bool
 no_row m = false
 
 -- a command that makes a load's progress
@@ -33,10 +33,10 @@ other_table name other here also =
     let there : IsTextOf (SomeCommand (InsertProgressDump (values_of other).a)) (command_text (InsertProgressFile name)) =
         subst (λ (k : Statement). IsTextOf k (command_text (InsertProgressFile name))) (made_of 26 other (row_is 26 (list_row other) here)) also in
     differ (ap (λ (l : List ℕ). get_or l 33 0) there.1) where
-  differ : 102 ≡ 100 → ⊥
+  differ : ◌≡◌ {A = ℕ} 102 100 → ⊥
   differ e = omega (arith, e)
 
-any_row : ℕ → Bool
+abbrev any_row : ℕ → Bool
 any_row m = true
 
 is_or_not : (m n : ℕ) (q : Bool) → (m == n) ≡ q → (m ≡ n) ⊎ ((m == n) ≡ false)

@@ -33,7 +33,7 @@ inserts_nothing text is head =
     starts_otherwise 73 _ refl (subst (λ (l : List ℕ). HasHead l) text_is head)
 
 -- whether the texts of a row make objects
-pub makes_object : ℕ → Bool
+abbrev pub makes_object : ℕ → Bool
 makes_object row = row == 20 || row == 21 || row == 22 || row == 23
 
 command_makes_nothing : (command : Command) → CommandHasText command → makes_object (list_row (SomeCommand command)) ≡ false → HasHead (command_text command) → ⊥

@@ -15,7 +15,7 @@ use Rattle.statement_laws.proofs.Marks.{apart, mark, told_apart}
 use Rattle.statement_laws.proofs.Same.{one_in_row}
 
 -- the marks of so many rows from there on are apart from that of the row, but for some rows
-pub all_later : (ℕ → Bool) → ℕ → ℕ → ℕ → Bool
+abbrev pub all_later : (ℕ → Bool) → ℕ → ℕ → ℕ → Bool
 all_later but row zero from = true
 all_later but row (suc k) from = (but from || apart (mark row) (mark from)) && all_later but row k (suc from)
 
@@ -34,8 +34,8 @@ or_cases false b e = inr e
 later_at : (but : ℕ → Bool) (row k from m : ℕ) → all_later but row k from ≡ true → from ≤ m → m < from + k → (but m || apart (mark row) (mark m)) ≡ true
 later_at but row zero from m e low high = absurd (omega arith)
 later_at but row (suc k) from m e low high = elim (cases_lt from m) [
-  | inl more ↦ later_at but row k (suc from) m (and_right _ _ e) (omega arith) (omega arith)
-  | inr most ↦ subst (λ (n : ℕ). (but n || apart (mark row) (mark n)) ≡ true) (omega arith) (and_left _ _ e)
+  | inl more ↦ later_at but row k (suc from) m (and_right (but from || apart (mark row) (mark from)) (all_later but row k (suc from)) e) (omega arith) (omega arith)
+  | inr most ↦ let same : from ≡ m = omega arith in subst (λ (n : ℕ). (but n || apart (mark row) (mark n)) ≡ true) same (and_left (but from || apart (mark row) (mark from)) (all_later but row k (suc from)) e)
 ]
 
 -- A text is read as its statement, where no later row has it: the marks tell, but for some rows.
@@ -57,7 +57,7 @@ read_but but s text is test none = record {
   ]
 
 -- the number is that row
-pub is_row : ℕ → ℕ → Bool
+abbrev pub is_row : ℕ → ℕ → Bool
 is_row row m = m == row
 
 pub row_is : (row m : ℕ) → is_row row m ≡ true → m ≡ row

@@ -20,7 +20,7 @@ use Rattle.statement_reading.proofs.NameValues.{name_of}
 use Rattle.statement_laws.proofs.Scans.{scan, is_word_byte, past_name, Adds, both, name_adds, names_add, count_adds, bound_adds, numbers_add}
 
 -- the mark of each row; an object's text has none
-MARKS : List (List ℕ)
+abbrev MARKS : List (List ℕ)
 MARKS =
     codes "SET SESSION a" ∷
     codes "SET NAMES u" ∷
@@ -82,7 +82,7 @@ MARKS =
     (codes "SELECT  FROM ." ++ 256 ∷ []) ∷
     (codes "SELECT  FROM ." ++ 256 ∷ []) ∷ []
 
-pub mark : ℕ → List ℕ
+abbrev pub mark : ℕ → List ℕ
 mark row = get_or MARKS row []
 
 -- the text begins with the mark of the row
@@ -263,7 +263,7 @@ front (SomeCommand command) text is = subst (λ (l : List ℕ). Front (command_r
 front (SomeQuery query) text is = subst (λ (l : List ℕ). Front (query_row query) l) (sym is.2) (query_front query is.0 is.1)
 
 -- neither of the two begins with the other
-pub apart : List ℕ → List ℕ → Bool
+abbrev pub apart : List ℕ → List ℕ → Bool
 apart [] m = false
 apart (a ∷ l) [] = false
 apart (a ∷ l) (b ∷ m) = if a == b then apart l m else true

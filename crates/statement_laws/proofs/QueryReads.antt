@@ -19,16 +19,16 @@ use Rattle.statement_laws.proofs.Scans.{scan, past_name}
 
 -- one column or several in the order of the rows
 
-every_byte : ℕ → Bool
+abbrev every_byte : ℕ → Bool
 every_byte byte = true
 
 -- what stands after the first space
-after_space : List ℕ → List ℕ
+abbrev after_space : List ℕ → List ℕ
 after_space [] = []
 after_space (c ∷ t) = if c == 32 then t else after_space t
 
 -- what stands outside of names after the first space
-after_names : List ℕ → List ℕ
+abbrev after_names : List ℕ → List ℕ
 after_names t = after_space (scan every_byte false t)
 
 past_list : (parts : List (List ℕ)) (t : List ℕ) → after_names (names parts ++ t) ≡ after_names t → after_names (after_name parts ++ t) ≡ after_names t
@@ -44,7 +44,7 @@ past_columns (one ∷ parts) t =
     ∙ past_list parts t (past_columns parts t)
 
 -- the byte after the words of the order
-next_byte : List ℕ → ℕ
+abbrev next_byte : List ℕ → ℕ
 next_byte text = get_or (after_space (after_names text)) 16 0
 
 flat : (w columns f s d n rest : List ℕ) → (((w ++ columns) ++ f) ++ ((s ++ d) ++ n)) ++ rest ≡ w ++ (columns ++ (f ++ (s ++ (d ++ (n ++ rest)))))
@@ -124,7 +124,7 @@ no_files : (other : Statement) → is_row 58 (list_row other) ≡ true → IsTex
 unfolding query_text
 no_files other here also =
     differ (ap (λ (l : List ℕ). get_or l 8 0) (text_made ProgressFiles other (query_text ProgressDump) (made_of 58 other (row_is 58 (list_row other) here)) also).1) where
-  differ : 100 ≡ 110 → ⊥
+  differ : ◌≡◌ {A = ℕ} 100 110 → ⊥
   differ e = omega (arith, e)
 
 dump_rows : query_text ProgressDump ≡ query_text (Rows (codes "digest" ∷ []) progress_schema (codes "dump"))
@@ -142,7 +142,7 @@ files_are_read : IsReadAs (query_text ProgressFiles) (SomeQuery ProgressFiles)
 files_are_read = read_plain (SomeQuery ProgressFiles) (query_text ProgressFiles) (tt, tt, refl) refl refl
 
 -- whether a query for all rows asks for this column of this table of a load's progress
-asks : List ℕ → List ℕ → Statement → Bool
+abbrev asks : List ℕ → List ℕ → Statement → Bool
 asks column name s = asks_progress column name (values_of s).columns (values_of s).a (values_of s).b
 
 own_bytes : (bytes : List ℕ) → bytes_eq bytes bytes ≡ true
@@ -175,7 +175,7 @@ asked_rows column name columns schema table e =
     (λ i. Rows (c i) (s i) (t i))
 
 -- the rows of the queries for a load's progress
-is_progress_row : ℕ → Bool
+abbrev is_progress_row : ℕ → Bool
 is_progress_row m = is_row 57 m || is_row 58 m
 
 no_progress : (columns : List (List ℕ)) (schema table : List ℕ) → 0 < length columns → asks_progress (codes "digest") (codes "dump") columns schema table ≡ false → asks_progress (codes "name") (codes "files") columns schema table ≡ false → (other : Statement) → is_progress_row (list_row other) ≡ true → IsTextOf other (query_text (Rows columns schema table)) → ⊥

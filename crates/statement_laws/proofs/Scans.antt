@@ -15,7 +15,7 @@ use Rattle.statement_reading.proofs.NameValues.{names_cons, after_name}
 use Rattle.statement_reading.proofs.WideValues.{numbers_cons, after_number}
 
 -- the bytes outside of quoted names that are kept; the text begins inside of one, or outside
-pub scan : (ℕ → Bool) → Bool → List ℕ → List ℕ
+abbrev pub scan : (ℕ → Bool) → Bool → List ℕ → List ℕ
 scan keep inside [] = []
 scan keep true (c ∷ t) = if c == 96 then scan keep false t else scan keep true t
 scan keep false (c ∷ t) =
