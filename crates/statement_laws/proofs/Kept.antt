@@ -25,11 +25,11 @@ use Rattle.statement_laws.proofs.Single.{one_reading}
 abbrev Alike : Type 0 → Type 0 → Type 0
 Alike A B = A ↔ B
 
-the_command : Statement → Command
+abbrev the_command : Statement → Command
 the_command (SomeCommand command) = command
 the_command (SomeQuery query) = SetUp
 
-the_query : Statement → Query
+abbrev the_query : Statement → Query
 the_query (SomeCommand command) = Schemas
 the_query (SomeQuery query) = query
 
