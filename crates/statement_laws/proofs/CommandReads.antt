@@ -11,7 +11,7 @@ use Rattle.statement_forms.specs.declared.statement.Statement.{Statement}
 use Rattle.statement_forms.specs.declared.statement.Statement.TheVariants.{Command as SomeCommand, Query as SomeQuery}
 use Rattle.statement_reading.proofs.RowValues.{values_of}
 use Rattle.statement_reading.proofs.Rows.{made_of}
-use Rattle.statement_laws.specs.Readings.{read_command, read_text}
+use Rattle.statement_laws.specs.Readings.{read_command, read_create}
 use Rattle.statement_laws.proofs.Heads.{makes_object, no_head_elsewhere}
 use Rattle.statement_laws.proofs.Latest.{all_later, read_but, read_plain, is_row, row_is}
 
@@ -93,8 +93,8 @@ object_text : (text : List ℕ) → command_text (Create text) ≡ text
 unfolding command_text
 object_text text = refl
 
-object_is_read : (text : List ℕ) → HasHead text → IsReadAs (command_text (Create text)) (SomeCommand (read_text text))
-object_is_read text head = subst (λ (l : List ℕ). IsReadAs l (SomeCommand (read_text text))) (sym (object_text text)) (text_is_read text head _ _ _ refl refl refl)
+object_is_read : (text : List ℕ) → HasHead text → IsReadAs (command_text (Create text)) (SomeCommand (read_create text))
+object_is_read text head = subst (λ (l : List ℕ). IsReadAs l (SomeCommand (read_create text))) (sym (object_text text)) (text_is_read text head _ _ _ refl refl refl)
 
 -- The text of a command is read as a command.
 pub command_is_read : (command : Command) → CommandHasText command → IsReadAs (command_text command) (SomeCommand (read_command command))

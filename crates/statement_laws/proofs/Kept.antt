@@ -7,7 +7,7 @@ use Rattle.honest_server.specs.Serve.{IsAnswered, QueryServed}
 use Rattle.honest_server.specs.State.{State}
 use Rattle.sql_cells.specs.declared.cell.Cell.{Cell}
 use Rattle.statement_forms.specs.Form.{command_form, query_form}
-use Rattle.statement_forms.specs.Statement.{CommandHasText, QueryHasText, InRange, IsReadAs}
+use Rattle.statement_forms.specs.Statement.{CommandHasText, QueryHasText, InRange, IsReadAs, IsTextOf}
 use Rattle.statement_forms.specs.Text.{command_text, query_text}
 use Rattle.statement_forms.specs.declared.form.Form.TheVariants.{Create as CreateForm, Select}
 use Rattle.statement_forms.specs.declared.command.Command.{Command}
@@ -16,8 +16,8 @@ use Rattle.statement_forms.specs.declared.query.Query.{Query}
 use Rattle.statement_forms.specs.declared.query.Query.TheVariants.{MasterStatus, BinaryLogStatus, Schemas, Tables, Columns, PrimaryKey, Triggers, Routines, ViewNeeds, Events, CreateDatabase, CreateTable, CreateView, CreateProcedure, CreateFunction, CreateTrigger, CreateEvent, Key, KeyAbove, Rows, RowsByKey, RowsAbove, RowsUpTo, RowsBetween, WideKey, WideKeyAbove, RowsByWideKey, RowsAboveWide, RowsUpToWide, RowsBetweenWide, ProgressDump, ProgressFiles}
 use Rattle.statement_forms.specs.declared.statement.Statement.{Statement}
 use Rattle.statement_forms.specs.declared.statement.Statement.TheVariants.{Command as SomeCommand, Query as SomeQuery}
-use Rattle.statement_laws.specs.Laws.{ACommandIsReadAsNothingElse, AQueryIsReadAsNothingElse, TheEffectIsKept, TheFormIsKept}
-use Rattle.statement_laws.specs.Readings.{asks_progress, read_command, read_query, read_rows, read_text}
+use Rattle.statement_laws.specs.Laws.{ACommandIsReadAsNothingElse, AQueryIsReadAsNothingElse, AStatementIsRead, TheEffectIsKept, TheFormIsKept}
+use Rattle.statement_laws.specs.Readings.{asks_progress, read_command, read_query, read_statement}
 use Rattle.statement_laws.proofs.CommandReads.{command_is_read}
 use Rattle.statement_laws.proofs.QueryReads.{asked_rows, query_is_read}
 use Rattle.statement_laws.proofs.Single.{one_reading}
@@ -48,13 +48,19 @@ query_alone = record {
   same = λ text query read. ap the_query (one_reading text (SomeQuery (read_query query)) (SomeQuery query) (subst (λ (l : List ℕ). IsReadAs l (SomeQuery (read_query query))) (sym read.text_of.2) (query_is_read query read.text_of.0 read.text_of.1)) read);
 }
 
+pub statement_is_read : AStatementIsRead
+statement_is_read = record { read = read; one = λ text statement other is also. one_reading text other (read_statement statement) also (read text statement is) } where
+  read : (text : List ℕ) (statement : Statement) → IsTextOf statement text → IsReadAs text (read_statement statement)
+  read text (SomeCommand command) is = subst (λ (l : List ℕ). IsReadAs l (SomeCommand (read_command command))) (sym is.1) (command_is_read command is.0)
+  read text (SomeQuery query) is = subst (λ (l : List ℕ). IsReadAs l (SomeQuery (read_query query))) (sym is.2) (query_is_read query is.0 is.1)
+
 text_form : (text : List ℕ) (a b c : Bool) → command_form (cond a CreateProgress (cond b CreateProgressFiles (cond c CreateProgressDump (Create text)))) ≡ CreateForm
 text_form text true b c = refl
 text_form text false true c = refl
 text_form text false false true = refl
 text_form text false false false = refl
 
-form_of_command : (command : Command) → command_form (read_command command) ≡ command_form command
+pub form_of_command : (command : Command) → command_form (read_command command) ≡ command_form command
 form_of_command SetUp = refl
 form_of_command NamesUtf8mb4 = refl
 form_of_command NamesBinary = refl
@@ -88,7 +94,7 @@ rows_form columns schema table true b = refl
 rows_form columns schema table false true = refl
 rows_form columns schema table false false = refl
 
-form_of_query : (query : Query) → query_form (read_query query) ≡ query_form query
+pub form_of_query : (query : Query) → query_form (read_query query) ≡ query_form query
 form_of_query MasterStatus = refl
 form_of_query BinaryLogStatus = refl
 form_of_query Schemas = refl
@@ -136,7 +142,7 @@ text_effect state text new false true c p q r = same_making state text (command_
 text_effect state text new false false true p q r = same_making state text (command_text CreateProgressDump) new r
 text_effect state text new false false false p q r = (λ e. e, λ e. e)
 
-command_effect : (state : State) (command : Command) (new : State) → Alike (Effect state (read_command command) new) (Effect state command new)
+pub command_effect : (state : State) (command : Command) (new : State) → Alike (Effect state (read_command command) new) (Effect state command new)
 command_effect state SetUp new = (λ e. e, λ e. e)
 command_effect state NamesUtf8mb4 new = (λ e. e, λ e. e)
 command_effect state NamesBinary new = (λ e. e, λ e. e)
@@ -221,7 +227,7 @@ rows_served state columns schema table found true b p q = asked_alike state foun
 rows_served state columns schema table found false true p q = asked_alike state found ProgressFiles (Rows columns schema table) _ (asked_rows (codes "name") (codes "files") columns schema table q) (files_served state found)
 rows_served state columns schema table found false false p q = (λ e. e, λ e. e)
 
-query_served : (state : State) (query : Query) (found : List (List Cell)) → Alike (QueryServed state (read_query query) found) (QueryServed state query found)
+pub query_served : (state : State) (query : Query) (found : List (List Cell)) → Alike (QueryServed state (read_query query) found) (QueryServed state query found)
 query_served state MasterStatus found = (λ e. e, λ e. e)
 query_served state BinaryLogStatus found = (λ e. e, λ e. e)
 query_served state Schemas found = (λ e. e, λ e. e)

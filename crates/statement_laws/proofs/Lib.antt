@@ -7,3 +7,4 @@ pub mod CommandReads
 pub mod QueryReads
 pub mod Single
 pub mod Kept
+pub mod Replies

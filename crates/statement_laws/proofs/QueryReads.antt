@@ -12,7 +12,7 @@ use Rattle.statement_forms.specs.declared.statement.Statement.TheVariants.{Comma
 use Rattle.statement_reading.proofs.NameValues.{names_cons, after_name}
 use Rattle.statement_reading.proofs.RowValues.{values_of}
 use Rattle.statement_reading.proofs.Rows.{made_of}
-use Rattle.statement_laws.specs.Readings.{read_query, read_rows, asks_progress, is_only_name}
+use Rattle.statement_laws.specs.Readings.{read_query, read_all_rows, asks_progress, is_only_name}
 use Rattle.statement_laws.proofs.Latest.{all_later, read_but, read_plain, is_row, row_is, or_cases, and_left, and_right}
 use Rattle.statement_laws.proofs.Same.{one_in_row}
 use Rattle.statement_laws.proofs.Scans.{scan, past_name}

@@ -6,10 +6,12 @@ use Rattle.statement_forms.specs.declared.command.Command.{Command}
 use Rattle.statement_forms.specs.declared.command.Command.TheVariants.{SetUp, NamesUtf8mb4, NamesBinary, ForeignKeyChecksOff, TimeZoneUtc, BinaryLogOff, SqlMode, CharacterSetClient, CollationConnection, RepeatableRead, TimeZone, LockInstance, FlushTables, UnlockTables, UnlockInstance, StartSnapshot, Start, Commit, Rollback, Use, Create, CreateProgress, CreateProgressFiles, CreateProgressDump, Insert, InsertProgressFile, InsertProgressDump}
 use Rattle.statement_forms.specs.declared.query.Query.{Query}
 use Rattle.statement_forms.specs.declared.query.Query.TheVariants.{MasterStatus, BinaryLogStatus, Schemas, Tables, Columns, PrimaryKey, Triggers, Routines, ViewNeeds, Events, CreateDatabase, CreateTable, CreateView, CreateProcedure, CreateFunction, CreateTrigger, CreateEvent, Key, KeyAbove, Rows, RowsByKey, RowsAbove, RowsUpTo, RowsBetween, WideKey, WideKeyAbove, RowsByWideKey, RowsAboveWide, RowsUpToWide, RowsBetweenWide, ProgressDump, ProgressFiles}
+use Rattle.statement_forms.specs.declared.statement.Statement.{Statement}
+use Rattle.statement_forms.specs.declared.statement.Statement.TheVariants.{Command as SomeCommand, Query as SomeQuery}
 
 -- the command that an object's text is read as: one that makes a load's progress, where it is the text of one
-abbrev pub read_text : List ℕ → Command
-read_text text =
+abbrev pub read_create : List ℕ → Command
+read_create text =
     if bytes_eq text (command_text CreateProgress) then CreateProgress
     else (if bytes_eq text (command_text CreateProgressFiles) then CreateProgressFiles
     else (if bytes_eq text (command_text CreateProgressDump) then CreateProgressDump
@@ -37,7 +39,7 @@ read_command Start = Start
 read_command Commit = Commit
 read_command Rollback = Rollback
 read_command (Use schema) = Use schema
-read_command (Create text) = read_text text
+read_command (Create text) = read_create text
 read_command CreateProgress = CreateProgress
 read_command CreateProgressFiles = CreateProgressFiles
 read_command CreateProgressDump = CreateProgressDump
@@ -57,8 +59,8 @@ asks_progress column name columns schema table =
     is_only_name column columns && (bytes_eq schema progress_schema && bytes_eq table name)
 
 -- the query that a query for all rows is read as: one for a load's progress, where it has the text of one
-abbrev pub read_rows : List (List ℕ) → List ℕ → List ℕ → Query
-read_rows columns schema table =
+abbrev pub read_all_rows : List (List ℕ) → List ℕ → List ℕ → Query
+read_all_rows columns schema table =
     if asks_progress (codes "digest") (codes "dump") columns schema table then ProgressDump
     else (if asks_progress (codes "name") (codes "files") columns schema table then ProgressFiles
     else Rows columns schema table)
@@ -84,7 +86,7 @@ read_query (CreateTrigger schema name) = CreateTrigger schema name
 read_query (CreateEvent schema name) = CreateEvent schema name
 read_query (Key key schema table skipped) = Key key schema table skipped
 read_query (KeyAbove key schema table above skipped) = KeyAbove key schema table above skipped
-read_query (Rows columns schema table) = read_rows columns schema table
+read_query (Rows columns schema table) = read_all_rows columns schema table
 read_query (RowsByKey columns schema table key) = RowsByKey columns schema table key
 read_query (RowsAbove columns schema table key above) = RowsAbove columns schema table key above
 read_query (RowsUpTo columns schema table key up_to) = RowsUpTo columns schema table key up_to
@@ -102,3 +104,8 @@ read_query (RowsBetweenWide columns schema table keys above up_to) =
     RowsBetweenWide columns schema table keys above up_to
 read_query ProgressDump = ProgressDump
 read_query ProgressFiles = ProgressFiles
+
+-- the statement that a statement's text is read as
+abbrev pub read_statement : Statement → Statement
+read_statement (SomeCommand command) = SomeCommand (read_command command)
+read_statement (SomeQuery query) = SomeQuery (read_query query)

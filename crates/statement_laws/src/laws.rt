@@ -1,5 +1,5 @@
 //! What follows from the definitions. Nothing here runs: the contracts are the laws.
-ghost use Rattle.statement_laws.specs.Laws.{ACommandIsRead, ACommandIsReadAsNothingElse, AQueryIsRead, AQueryIsReadAsNothingElse, ATextIsReadAsOneStatement, TheEffectIsKept, TheFormIsKept};
+ghost use Rattle.statement_laws.specs.Laws.{ACommandIsRead, ACommandIsReadAsNothingElse, AQueryIsRead, AQueryIsReadAsNothingElse, AStatementIsRead, ATextIsReadAsOneStatement, TheEffectIsKept, TheFormIsKept, TheReplyIsKept};
 
 /// A text is read as one statement at most.
 pub fn a_text_is_read_as_one_statement()
@@ -32,6 +32,11 @@ pub fn a_query_is_read_as_nothing_else()
     ensures { AQueryIsReadAsNothingElse }
 {}
 
+/// The text of a statement, a command or a query, is read as `read_statement` of it, and as nothing else.
+pub fn a_statement_is_read()
+    ensures { AStatementIsRead }
+{}
+
 /// What the text of a command or a query is read as has the form of that command or query.
 pub fn the_form_is_kept()
     ensures { TheFormIsKept }
@@ -41,4 +46,10 @@ pub fn the_form_is_kept()
 /// alike, and what the text of a query is read as is answered by the same rows.
 pub fn the_effect_is_kept()
     ensures { TheEffectIsKept }
+{}
+
+/// An honest server may reply to what the text of a statement is read as just as to the statement: the
+/// same OKs, rows and ERRs, after which the link is in the same states, plainly and beside a holder.
+pub fn the_reply_is_kept()
+    ensures { TheReplyIsKept }
 {}

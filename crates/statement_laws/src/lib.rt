@@ -8,6 +8,6 @@ mod laws;
 
 pub use laws::{
     a_command_is_read, a_command_is_read_as_nothing_else, a_query_is_read,
-    a_query_is_read_as_nothing_else, a_text_is_read_as_one_statement, the_effect_is_kept,
-    the_form_is_kept,
+    a_query_is_read_as_nothing_else, a_statement_is_read, a_text_is_read_as_one_statement,
+    the_effect_is_kept, the_form_is_kept, the_reply_is_kept,
 };
