@@ -1,5 +1,5 @@
 -- The commands that texts are read as.
-use Rattle.std.proofs.Common.{◌≡◌, ◌==◌, ◌||◌, ◌+◌, ◌-◌, ◌≤◌, ◌<◌, ◌⊎◌, inl, inr, ℕ, suc, arith, Bool, true, false, cond, List, [], ◌∷◌, ◌++◌, codes, get_or, refl, sym, ◌∙◌, ap, subst, bytes_eq}
+use Rattle.std.proofs.Common.{◌≡◌, ◌==◌, ◌||◌, ◌-◌, ◌<◌, ◌⊎◌, inl, inr, ℕ, suc, arith, Bool, true, false, cond, List, codes, get_or, refl, sym, ◌∙◌, ap, subst, bytes_eq}
 use Rattle.std.proofs.lemmas.Bool.Decides.{nat_tests, Decides-eqb}
 use Rattle.std.proofs.lemmas.Slice.Eq.{bytes_eq-Decides}
 use Rattle.object_forms.specs.Head.{HasHead}
@@ -8,11 +8,11 @@ use Rattle.statement_forms.specs.Text.{command_text}
 use Rattle.statement_forms.specs.declared.command.Command.{Command}
 use Rattle.statement_forms.specs.declared.command.Command.TheVariants.{SetUp, NamesUtf8mb4, NamesBinary, ForeignKeyChecksOff, TimeZoneUtc, BinaryLogOff, SqlMode, CharacterSetClient, CollationConnection, RepeatableRead, TimeZone, LockInstance, FlushTables, UnlockTables, UnlockInstance, StartSnapshot, Start, Commit, Rollback, Use, Create, CreateProgress, CreateProgressFiles, CreateProgressDump, Insert, InsertProgressFile, InsertProgressDump}
 use Rattle.statement_forms.specs.declared.statement.Statement.{Statement}
-use Rattle.statement_forms.specs.declared.statement.Statement.TheVariants.{Command as SomeCommand, Query as SomeQuery}
+use Rattle.statement_forms.specs.declared.statement.Statement.TheVariants.{Command as SomeCommand}
 use Rattle.statement_reading.proofs.RowValues.{values_of}
 use Rattle.statement_reading.proofs.Rows.{made_of}
 use Rattle.statement_laws.specs.Readings.{read_command, read_create}
-use Rattle.statement_laws.proofs.Heads.{makes_object, no_head_elsewhere}
+use Rattle.statement_laws.proofs.Heads.{no_head_elsewhere}
 use Rattle.statement_laws.proofs.Latest.{all_later, read_but, read_plain, is_row, row_is}
 
 time_zone_text : command_text TimeZoneUtc ≡ command_text (TimeZone (codes "+00:00"))
@@ -31,10 +31,10 @@ other_table : (name : List ℕ) (other : Statement) → is_row 26 (list_row othe
 unfolding command_text
 other_table name other here also =
     let there : IsTextOf (SomeCommand (InsertProgressDump (values_of other).a)) (command_text (InsertProgressFile name)) =
-        subst (λ (k : Statement). IsTextOf k (command_text (InsertProgressFile name))) (made_of 26 other (row_is 26 (list_row other) here)) also in
+    subst (λ (k : Statement). IsTextOf k (command_text (InsertProgressFile name))) (made_of 26 other (row_is 26 (list_row other) here)) also in
     differ (ap (λ (l : List ℕ). get_or l 33 0) there.1) where
-  differ : ◌≡◌ {A = ℕ} 102 100 → ⊥
-  differ e = omega (arith, e)
+      differ : ◌≡◌ {A = ℕ} 102 100 → ⊥
+      differ e = omega (arith, e)
 
 abbrev any_row : ℕ → Bool
 any_row m = true

@@ -1,5 +1,5 @@
 -- Texts that don't begin with the word CREATE make no object.
-use Rattle.std.proofs.Common.{◌≡◌, ◌==◌, ◌||◌, ◌⊎◌, inl, inr, ℕ, Bool, true, false, if◌then◌else◌, List, [], ◌∷◌, ◌++◌, codes, refl, sym, ◌∙◌, ap, subst, Some, None, is_some}
+use Rattle.std.proofs.Common.{◌≡◌, ◌==◌, ◌||◌, ℕ, Bool, true, false, if◌then◌else◌, List, ◌∷◌, ◌++◌, codes, refl, ◌∙◌, ap, subst, Some, None, is_some}
 use Rattle.std.specs.Prelude.{option_and_then}
 use Rattle.grammar.specs.Language.{Then, Fixed}
 use Rattle.object_texts.proofs.HeadPlaces.{no-head}
@@ -36,7 +36,7 @@ inserts_nothing text is head =
 abbrev pub makes_object : ℕ → Bool
 makes_object row = row == 20 || row == 21 || row == 22 || row == 23
 
-command_makes_nothing : (command : Command) → CommandHasText command → makes_object (list_row (SomeCommand command)) ≡ false → HasHead (command_text command) → ⊥
+pub command_makes_nothing : (command : Command) → CommandHasText command → makes_object (list_row (SomeCommand command)) ≡ false → HasHead (command_text command) → ⊥
 unfolding command_text
 command_makes_nothing SetUp has other = starts_otherwise 83 _ refl
 command_makes_nothing NamesUtf8mb4 has other = starts_otherwise 83 _ refl
@@ -66,7 +66,7 @@ command_makes_nothing (Insert text) has other = inserts_nothing text has
 command_makes_nothing (InsertProgressFile name) has other = starts_otherwise 73 _ refl
 command_makes_nothing (InsertProgressDump digest) has other = starts_otherwise 73 _ refl
 
-query_makes_nothing : (query : Query) → HasHead (query_text query) → ⊥
+pub query_makes_nothing : (query : Query) → HasHead (query_text query) → ⊥
 unfolding query_text
 query_makes_nothing MasterStatus = starts_otherwise 83 _ refl
 query_makes_nothing BinaryLogStatus = starts_otherwise 83 _ refl

@@ -1,5 +1,5 @@
 -- What is read in place of a statement: its form and its effect.
-use Rattle.std.proofs.Common.{◌≡◌, ◌↔◌, ℕ, Bool, true, false, cond, List, [], ◌∷◌, codes, refl, sym, ◌∙◌, ap, subst, bytes_eq}
+use Rattle.std.proofs.Common.{◌≡◌, ◌↔◌, ℕ, Bool, true, false, cond, List, [], ◌∷◌, codes, refl, sym, ap, subst, bytes_eq}
 use Rattle.std.proofs.lemmas.Slice.Eq.{bytes_eq-Decides}
 use Rattle.honest_server.specs.Answer.{progress_schema}
 use Rattle.honest_server.specs.Effect.{Creates, Effect, EndsTransaction}
@@ -7,7 +7,7 @@ use Rattle.honest_server.specs.Serve.{IsAnswered, QueryServed}
 use Rattle.honest_server.specs.State.{State}
 use Rattle.sql_cells.specs.declared.cell.Cell.{Cell}
 use Rattle.statement_forms.specs.Form.{command_form, query_form}
-use Rattle.statement_forms.specs.Statement.{CommandHasText, QueryHasText, InRange, IsReadAs, IsTextOf}
+use Rattle.statement_forms.specs.Statement.{IsReadAs, IsTextOf}
 use Rattle.statement_forms.specs.Text.{command_text, query_text}
 use Rattle.statement_forms.specs.declared.form.Form.TheVariants.{Create as CreateForm, Select}
 use Rattle.statement_forms.specs.declared.command.Command.{Command}

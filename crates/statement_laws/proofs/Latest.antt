@@ -6,7 +6,7 @@ use Rattle.object_forms.specs.Head.{HasHead}
 use Rattle.statement_forms.specs.Statement.{IsTextOf, IsReadAs, list_row}
 use Rattle.statement_forms.specs.Text.{command_text}
 use Rattle.statement_forms.specs.declared.statement.Statement.{Statement}
-use Rattle.statement_forms.specs.declared.statement.Statement.TheVariants.{Command as SomeCommand, Query as SomeQuery}
+use Rattle.statement_forms.specs.declared.statement.Statement.TheVariants.{Command as SomeCommand}
 use Rattle.statement_forms.specs.declared.command.Command.TheVariants.{Create}
 use Rattle.statement_reading.proofs.RowValues.{values_of}
 use Rattle.statement_reading.proofs.Rows.{made_of, row_below}

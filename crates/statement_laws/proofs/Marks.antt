@@ -1,7 +1,6 @@
 -- Marks: what the texts of a row begin with outside of quoted names, numbers and commas, with an end mark after them.
-use Rattle.std.proofs.Common.{◌≡◌, ◌==◌, ◌||◌, ◌&&◌, ℕ, suc, zero, ◌+◌, ◌-◌, ◌<◌, ◌≤◌, ◌^◌, arith, Bool, true, false, cond, if◌then◌else◌, List, [], ◌∷◌, ◌++◌, codes, get_or, refl, sym, ◌∙◌, ap, subst, append_assoc}
-use Rattle.std.specs.Prelude.{ℤ, decimal}
-use Rattle.std.specs.Fmt.{signed_decimal}
+use Rattle.std.proofs.Common.{◌≡◌, ◌==◌, ℕ, ◌<◌, ◌^◌, arith, Bool, true, false, cond, if◌then◌else◌, List, [], ◌∷◌, ◌++◌, codes, get_or, refl, sym, ◌∙◌, ap, subst, append_assoc}
+use Rattle.std.specs.Prelude.{ℤ}
 use Rattle.std.proofs.lemmas.Bool.Decides.{nat_tests}
 use Rattle.std.specs.List.{All}
 use Rattle.grammar.specs.Language.{Then, Fixed}
@@ -94,15 +93,14 @@ unfolding AnyInsert Filled Then Fixed
 insert_front text (a, b, e, begin, (c, d, split, named, (more, (x, y, parts, opens, rest)))) =
     let (v, is) = name_of c named in
     let tail : b ≡ quoted_name v ++ (codes " (" ++ y) =
-        split ∙ ap (λ (l : List ℕ). l ++ d) is ∙ ap (λ (l : List ℕ). quoted_name v ++ l) (parts ∙ ap (λ (l : List ℕ). l ++ y) opens) in
+    split ∙ ap (λ (l : List ℕ). l ++ d) is ∙ ap (λ (l : List ℕ). quoted_name v ++ l) (parts ∙ ap (λ (l : List ℕ). l ++ y) opens) in
     let whole : text ≡ codes "INSERT INTO " ++ (quoted_name v ++ (codes " (" ++ y)) =
-        e ∙ ap (λ (l : List ℕ). l ++ b) begin ∙ ap (λ (l : List ℕ). codes "INSERT INTO " ++ l) tail in
+    e ∙ ap (λ (l : List ℕ). l ++ b) begin ∙ ap (λ (l : List ℕ). codes "INSERT INTO " ++ l) tail in
     let ended : text ++ 256 ∷ [] ≡ codes "INSERT INTO " ++ (quoted_name v ++ (codes " (" ++ (y ++ 256 ∷ []))) =
-        ap (λ (l : List ℕ). l ++ 256 ∷ []) whole ∙ ap (λ (l : List ℕ). codes "INSERT INTO " ++ l) (append_assoc (quoted_name v) (codes " (" ++ y) (256 ∷ [])) in
-    (
+    ap (λ (l : List ℕ). l ++ 256 ∷ []) whole ∙ ap (λ (l : List ℕ). codes "INSERT INTO " ++ l) (append_assoc (quoted_name v) (codes " (" ++ y) (256 ∷ [])) in (
       scan is_word_byte false (y ++ 256 ∷ []),
       ap (λ (l : List ℕ). scan is_word_byte false l) ended
-      ∙ ap (λ (l : List ℕ). codes "INSERT INTO " ++ l) (past_name is_word_byte v (codes " (" ++ (y ++ 256 ∷ []))),
+          ∙ ap (λ (l : List ℕ). codes "INSERT INTO " ++ l) (past_name is_word_byte v (codes " (" ++ (y ++ 256 ∷ []))),
     )
 
 pub command_front : (command : Command) → CommandHasText command → Front (command_row command) (command_text command)
@@ -273,6 +271,7 @@ same_tail a b l m x y true is e same = (e, cc)
 same_tail a b l m x y false is e same = absurd (other (let head : a ≡ b = cc in sym is ∙ ap (λ (k : ℕ). a == k) (sym head) ∙ self a)) where
   other : false ≡ true → ⊥
   other h = cc
+
   self : (k : ℕ) → (k == k) ≡ true
   self k = grind (arith, nat_tests)
 

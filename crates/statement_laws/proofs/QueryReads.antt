@@ -1,5 +1,5 @@
 -- The queries that texts are read as.
-use Rattle.std.proofs.Common.{◌≡◌, ◌==◌, ◌||◌, ◌&&◌, ◌+◌, ◌-◌, ◌≤◌, ◌<◌, ◌⊎◌, inl, inr, ℕ, suc, arith, Bool, true, false, cond, if◌then◌else◌, List, [], ◌∷◌, ◌++◌, codes, get_or, length, refl, sym, ◌∙◌, ap, subst, bytes_eq, append_assoc, append-nil}
+use Rattle.std.proofs.Common.{◌≡◌, ◌==◌, ◌||◌, ◌&&◌, ◌<◌, inl, inr, ℕ, arith, Bool, true, false, cond, if◌then◌else◌, List, [], ◌∷◌, ◌++◌, codes, get_or, length, refl, sym, ◌∙◌, ap, subst, bytes_eq, append_assoc, append-nil}
 use Rattle.std.proofs.lemmas.Slice.Eq.{bytes_eq-Decides}
 use Rattle.honest_server.specs.Answer.{progress_schema}
 use Rattle.sql_cells.specs.Name.{quoted_name}
@@ -8,12 +8,12 @@ use Rattle.statement_forms.specs.Text.{query_text, rows_from, by_key, one_after,
 use Rattle.statement_forms.specs.declared.query.Query.{Query}
 use Rattle.statement_forms.specs.declared.query.Query.TheVariants.{MasterStatus, BinaryLogStatus, Schemas, Tables, Columns, PrimaryKey, Triggers, Routines, ViewNeeds, Events, CreateDatabase, CreateTable, CreateView, CreateProcedure, CreateFunction, CreateTrigger, CreateEvent, Key, KeyAbove, Rows, RowsByKey, RowsAbove, RowsUpTo, RowsBetween, WideKey, WideKeyAbove, RowsByWideKey, RowsAboveWide, RowsUpToWide, RowsBetweenWide, ProgressDump, ProgressFiles}
 use Rattle.statement_forms.specs.declared.statement.Statement.{Statement}
-use Rattle.statement_forms.specs.declared.statement.Statement.TheVariants.{Command as SomeCommand, Query as SomeQuery}
+use Rattle.statement_forms.specs.declared.statement.Statement.TheVariants.{Query as SomeQuery}
 use Rattle.statement_reading.proofs.NameValues.{names_cons, after_name}
 use Rattle.statement_reading.proofs.RowValues.{values_of}
 use Rattle.statement_reading.proofs.Rows.{made_of}
-use Rattle.statement_laws.specs.Readings.{read_query, read_all_rows, asks_progress, is_only_name}
-use Rattle.statement_laws.proofs.Latest.{all_later, read_but, read_plain, is_row, row_is, or_cases, and_left, and_right}
+use Rattle.statement_laws.specs.Readings.{read_query, asks_progress, is_only_name}
+use Rattle.statement_laws.proofs.Latest.{read_but, read_plain, is_row, row_is, or_cases, and_left, and_right}
 use Rattle.statement_laws.proofs.Same.{one_in_row}
 use Rattle.statement_laws.proofs.Scans.{scan, past_name}
 
@@ -105,7 +105,7 @@ no_wide_key key schema table skipped other here also =
     let v = values_of other in
     let text = query_text (Key key schema table skipped) in
     let there : QueryHasText (WideKey v.keys v.a v.b v.n) × (text ≡ query_text (WideKey v.keys v.a v.b v.n)) =
-        text_made (WideKey v.keys v.a v.b v.n) other text (made_of 51 other (row_is 51 (list_row other) here)) also in
+    text_made (WideKey v.keys v.a v.b v.n) other text (made_of 51 other (row_is 51 (list_row other) here)) also in
     not_comma 32 text (key_next key schema table skipped) (omega arith)
     (ap next_byte there.1 ∙ wide_key_next v.keys v.a v.b v.n there.0)
 
@@ -114,7 +114,7 @@ no_rows_by_wide_key columns schema table key other here also =
     let v = values_of other in
     let text = query_text (RowsByKey columns schema table key) in
     let there : QueryHasText (RowsByWideKey v.columns v.a v.b v.keys) × (text ≡ query_text (RowsByWideKey v.columns v.a v.b v.keys)) =
-        text_made (RowsByWideKey v.columns v.a v.b v.keys) other text (made_of 53 other (row_is 53 (list_row other) here)) also in
+    text_made (RowsByWideKey v.columns v.a v.b v.keys) other text (made_of 53 other (row_is 53 (list_row other) here)) also in
     not_comma 0 text (rows_by_key_next columns schema table key) (omega arith)
     (ap next_byte there.1 ∙ rows_by_wide_key_next v.columns v.a v.b v.keys there.0.1)
 
@@ -124,8 +124,8 @@ no_files : (other : Statement) → is_row 58 (list_row other) ≡ true → IsTex
 unfolding query_text
 no_files other here also =
     differ (ap (λ (l : List ℕ). get_or l 8 0) (text_made ProgressFiles other (query_text ProgressDump) (made_of 58 other (row_is 58 (list_row other) here)) also).1) where
-  differ : ◌≡◌ {A = ℕ} 100 110 → ⊥
-  differ e = omega (arith, e)
+      differ : ◌≡◌ {A = ℕ} 100 110 → ⊥
+      differ e = omega (arith, e)
 
 dump_rows : query_text ProgressDump ≡ query_text (Rows (codes "digest" ∷ []) progress_schema (codes "dump"))
 unfolding query_text
@@ -158,7 +158,7 @@ same_rows : (column name : List ℕ) (columns : List (List ℕ)) (schema table t
 same_rows column name columns schema table text is same =
     let rows = SomeQuery (Rows (column ∷ []) progress_schema name) in
     let one : SomeQuery (Rows columns schema table) ≡ rows =
-        one_in_row rows (SomeQuery (Rows columns schema table)) text (omega arith, tt, same) is refl in
+    one_in_row rows (SomeQuery (Rows columns schema table)) text (omega arith, tt, same) is refl in
     ap (asks column name) one ∙ asks_own column name
 
 only_name : (name : List ℕ) (columns : List (List ℕ)) → is_only_name name columns ≡ true → columns ≡ name ∷ []

@@ -1,9 +1,9 @@
 -- What an honest server may reply to what is read in place of a statement.
-use Rattle.std.proofs.Common.{◌≡◌, ◌↔◌, ◌⊎◌, inl, inr, true, List, [], Some, refl, sym, ap, subst}
+use Rattle.std.proofs.Common.{◌≡◌, ◌↔◌, inl, inr, List, Some, sym, subst}
 use Rattle.server_data.specs.declared.data.Transaction.{Transaction}
 use Rattle.sql_cells.specs.declared.cell.Cell.{Cell}
 use Rattle.honest_server.specs.Moves.{Way, plainly, beside}
-use Rattle.honest_server.specs.Serve.{CameBefore, ErrAfter, FitsNowhere, GivesErr, Handles, IsHandled, Refuses, Reply, done, rows, refused, Serves}
+use Rattle.honest_server.specs.Serve.{CameBefore, ErrAfter, FitsNowhere, GivesErr, Handles, IsHandled, Refuses, Reply, done, rows, refused}
 use Rattle.honest_server.specs.State.{State, with_others}
 use Rattle.statement_forms.specs.Form.{form_of}
 use Rattle.statement_forms.specs.declared.form.Form.{Form}

@@ -1,5 +1,5 @@
 -- What stands outside of names between backquotes.
-use Rattle.std.proofs.Common.{◌≡◌, ◌==◌, ◌||◌, ◌&&◌, ℕ, suc, ◌<◌, ◌≤◌, ◌^◌, arith, Bool, true, false, cond, if◌then◌else◌, List, [], ◌∷◌, ◌++◌, codes, decimal, refl, sym, ◌∙◌, ap, append_assoc, append-nil, nat_le}
+use Rattle.std.proofs.Common.{◌≡◌, ◌==◌, ◌&&◌, ℕ, suc, ◌<◌, ◌≤◌, ◌^◌, arith, Bool, true, false, cond, if◌then◌else◌, List, [], ◌∷◌, ◌++◌, decimal, refl, sym, ◌∙◌, ap, append_assoc, nat_le}
 use Rattle.std.specs.Prelude.{ℤ, pos, negsuc}
 use Rattle.std.specs.Fmt.{signed_decimal}
 use Rattle.std.specs.List.{All, flat_map}
@@ -62,7 +62,7 @@ pub record Adds (text mark : List ℕ) : Type 0 where
 pub both : {x m y n : List ℕ} → Adds x m → Adds y n → Adds (x ++ y) (m ++ n)
 both {x} {m} {y} {n} first second = record {
   is = λ t. ap (λ (l : List ℕ). scan is_word_byte false l) (append_assoc x y t) ∙ first.is (y ++ t)
-    ∙ ap (λ (l : List ℕ). m ++ l) (second.is t) ∙ sym (append_assoc m n (scan is_word_byte false t));
+      ∙ ap (λ (l : List ℕ). m ++ l) (second.is t) ∙ sym (append_assoc m n (scan is_word_byte false t));
 }
 
 pub name_adds : (name : List ℕ) → Adds (quoted_name name) []

@@ -1,6 +1,6 @@
 -- A text is read as one statement.
-use Rattle.std.proofs.Common.{◌≡◌, ℕ, ◌<◌, arith, ◌⊎◌, inl, inr, List, sym}
-use Rattle.statement_forms.specs.Statement.{IsReadAs, list_row}
+use Rattle.std.proofs.Common.{◌≡◌, ℕ, arith, inl, inr, List, sym}
+use Rattle.statement_forms.specs.Statement.{IsReadAs}
 use Rattle.statement_forms.specs.declared.statement.Statement.{Statement}
 
 pub one_reading : (text : List ℕ) (one other : Statement) → IsReadAs text one → IsReadAs text other → one ≡ other
