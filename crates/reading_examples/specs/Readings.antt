@@ -1,5 +1,5 @@
 -- Worked readings of commands and queries.
-use Rattle.std.specs.Prelude.{ℕ, ◌≡◌, List, [], ◌∷◌, codes}
+use Rattle.std.specs.Prelude.{ℕ, ◌≡◌, ◌++◌, List, [], ◌∷◌, codes}
 use Rattle.statement_forms.specs.Statement.{IsReadAs}
 use Rattle.statement_forms.specs.declared.command.Command.TheVariants.{TimeZoneUtc, TimeZone, Commit, Use, Create, CreateProgress, CreateProgressFiles, CreateProgressDump}
 use Rattle.statement_forms.specs.declared.query.Query.TheVariants.{Rows, RowsByKey, ProgressDump, ProgressFiles}
@@ -14,9 +14,13 @@ pub record CommandReadings : Type 0 where
   pub use_schema : read_command (Use (codes "a`b")) ≡ Use (codes "a`b")
   pub progress : read_command (Create (codes "CREATE DATABASE `myloader_progress`"))
       ≡ CreateProgress
-  pub progress_files : read_command (Create (codes "CREATE TABLE `myloader_progress`.`files` (`name` varbinary(255) NOT NULL, PRIMARY KEY (`name`)) ENGINE=InnoDB"))
+  pub progress_files : read_command (Create
+      (codes "CREATE TABLE `myloader_progress`.`files` (`name` varbinary(255) NOT NULL,"
+      ++ codes " PRIMARY KEY (`name`)) ENGINE=InnoDB"))
       ≡ CreateProgressFiles
-  pub progress_dump : read_command (Create (codes "CREATE TABLE `myloader_progress`.`dump` (`digest` char(40) NOT NULL) ENGINE=InnoDB"))
+  pub progress_dump : read_command (Create
+      (codes "CREATE TABLE `myloader_progress`.`dump` (`digest` char(40) NOT NULL)"
+      ++ codes " ENGINE=InnoDB"))
       ≡ CreateProgressDump
   pub lower_case : read_command (Create (codes "create database `myloader_progress`"))
       ≡ Create (codes "create database `myloader_progress`")
