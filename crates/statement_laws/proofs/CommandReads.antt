@@ -59,16 +59,16 @@ differs text other e same = wrong (sym e ∙ (bytes_eq-Decides text other).1 sam
   wrong : false ≡ true → ⊥
   wrong h = cc
 
-made_text : (row : ℕ) (command : Command) (other : Statement) (text : List ℕ) → other ≡ SomeCommand command → IsTextOf other text → text ≡ command_text command
-made_text row command other text is also = (subst (λ (k : Statement). IsTextOf k text) is also).1
+made_text : (command : Command) (other : Statement) (text : List ℕ) → other ≡ SomeCommand command → IsTextOf other text → text ≡ command_text command
+made_text command other text is also = (subst (λ (k : Statement). IsTextOf k text) is also).1
 
 later_object : (text : List ℕ) → HasHead text → bytes_eq text (command_text CreateProgress) ≡ false → bytes_eq text (command_text CreateProgressFiles) ≡ false → bytes_eq text (command_text CreateProgressDump) ≡ false → (other : Statement) → 20 < list_row other → IsTextOf other text → ⊥
 later_object text head p q r other more also = elim (is_or_not (list_row other) 21 _ refl) [
-  | inl here ↦ differs text (command_text CreateProgress) p (made_text 21 CreateProgress other text (made_of 21 other here) also)
+  | inl here ↦ differs text (command_text CreateProgress) p (made_text CreateProgress other text (made_of 21 other here) also)
   | inr not_schema ↦ elim (is_or_not (list_row other) 22 _ refl) [
-    | inl here ↦ differs text (command_text CreateProgressFiles) q (made_text 22 CreateProgressFiles other text (made_of 22 other here) also)
+    | inl here ↦ differs text (command_text CreateProgressFiles) q (made_text CreateProgressFiles other text (made_of 22 other here) also)
     | inr not_files ↦ elim (is_or_not (list_row other) 23 _ refl) [
-      | inl here ↦ differs text (command_text CreateProgressDump) r (made_text 23 CreateProgressDump other text (made_of 23 other here) also)
+      | inl here ↦ differs text (command_text CreateProgressDump) r (made_text CreateProgressDump other text (made_of 23 other here) also)
       | inr not_dump ↦ no_head_elsewhere other text also (none_of _ _ _ _ (is_no_object (list_row other) more) not_schema not_files not_dump) head
     ]
   ]

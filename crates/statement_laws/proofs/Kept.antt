@@ -22,9 +22,6 @@ use Rattle.statement_laws.proofs.CommandReads.{command_is_read}
 use Rattle.statement_laws.proofs.QueryReads.{asked_rows, query_is_read}
 use Rattle.statement_laws.proofs.Single.{one_reading}
 
-abbrev Alike : Type 0 → Type 0 → Type 0
-Alike A B = A ↔ B
-
 abbrev the_command : Statement → Command
 the_command (SomeCommand command) = command
 the_command (SomeQuery query) = SetUp
@@ -131,18 +128,18 @@ form_of_query ProgressFiles = refl
 pub forms_kept : TheFormIsKept
 forms_kept = record { commands = form_of_command; queries = form_of_query }
 
-same_making : (state : State) (text other : List ℕ) (new : State) → bytes_eq text other ≡ true → Alike (Creates state other new) (Creates state text new)
+same_making : (state : State) (text other : List ℕ) (new : State) → bytes_eq text other ≡ true → Creates state other new ↔ Creates state text new
 same_making state text other new e =
     let same : text ≡ other = (bytes_eq-Decides text other).0 e in
     (λ made. subst (λ (l : List ℕ). Creates state l new) (sym same) made, λ made. subst (λ (l : List ℕ). Creates state l new) same made)
 
-text_effect : (state : State) (text : List ℕ) (new : State) (a b c : Bool) → bytes_eq text (command_text CreateProgress) ≡ a → bytes_eq text (command_text CreateProgressFiles) ≡ b → bytes_eq text (command_text CreateProgressDump) ≡ c → Alike (Effect state (cond a CreateProgress (cond b CreateProgressFiles (cond c CreateProgressDump (Create text)))) new) (Effect state (Create text) new)
+text_effect : (state : State) (text : List ℕ) (new : State) (a b c : Bool) → bytes_eq text (command_text CreateProgress) ≡ a → bytes_eq text (command_text CreateProgressFiles) ≡ b → bytes_eq text (command_text CreateProgressDump) ≡ c → Effect state (cond a CreateProgress (cond b CreateProgressFiles (cond c CreateProgressDump (Create text)))) new ↔ Effect state (Create text) new
 text_effect state text new true b c p q r = same_making state text (command_text CreateProgress) new p
 text_effect state text new false true c p q r = same_making state text (command_text CreateProgressFiles) new q
 text_effect state text new false false true p q r = same_making state text (command_text CreateProgressDump) new r
 text_effect state text new false false false p q r = (λ e. e, λ e. e)
 
-pub command_effect : (state : State) (command : Command) (new : State) → Alike (Effect state (read_command command) new) (Effect state command new)
+pub command_effect : (state : State) (command : Command) (new : State) → Effect state (read_command command) new ↔ Effect state command new
 command_effect state SetUp new = (λ e. e, λ e. e)
 command_effect state NamesUtf8mb4 new = (λ e. e, λ e. e)
 command_effect state NamesBinary new = (λ e. e, λ e. e)
@@ -171,13 +168,13 @@ command_effect state (Insert text) new = (λ e. e, λ e. e)
 command_effect state (InsertProgressFile name) new = (λ e. e, λ e. e)
 command_effect state (InsertProgressDump digest) new = (λ e. e, λ e. e)
 
-text_ends : (text : List ℕ) (a b c : Bool) → Alike (EndsTransaction (cond a CreateProgress (cond b CreateProgressFiles (cond c CreateProgressDump (Create text))))) (EndsTransaction (Create text))
+text_ends : (text : List ℕ) (a b c : Bool) → EndsTransaction (cond a CreateProgress (cond b CreateProgressFiles (cond c CreateProgressDump (Create text)))) ↔ EndsTransaction (Create text)
 text_ends text true b c = (λ e. e, λ e. e)
 text_ends text false true c = (λ e. e, λ e. e)
 text_ends text false false true = (λ e. e, λ e. e)
 text_ends text false false false = (λ e. e, λ e. e)
 
-command_ends : (command : Command) → Alike (EndsTransaction (read_command command)) (EndsTransaction command)
+command_ends : (command : Command) → EndsTransaction (read_command command) ↔ EndsTransaction command
 command_ends SetUp = (λ e. e, λ e. e)
 command_ends NamesUtf8mb4 = (λ e. e, λ e. e)
 command_ends NamesBinary = (λ e. e, λ e. e)
@@ -206,28 +203,28 @@ command_ends (Insert text) = (λ e. e, λ e. e)
 command_ends (InsertProgressFile name) = (λ e. e, λ e. e)
 command_ends (InsertProgressDump digest) = (λ e. e, λ e. e)
 
-dump_served : (state : State) (found : List (List Cell)) → Alike (IsAnswered state ProgressDump found) (IsAnswered state (Rows (codes "digest" ∷ []) progress_schema (codes "dump")) found)
+dump_served : (state : State) (found : List (List Cell)) → IsAnswered state ProgressDump found ↔ IsAnswered state (Rows (codes "digest" ∷ []) progress_schema (codes "dump")) found
 dump_served state found = (
   λ h. record { database = h.database; stands = h.stands; answers = h.answers; texts = h.texts },
   λ h. record { database = h.database; stands = h.stands; answers = h.answers; texts = h.texts },
 )
 
-files_served : (state : State) (found : List (List Cell)) → Alike (IsAnswered state ProgressFiles found) (IsAnswered state (Rows (codes "name" ∷ []) progress_schema (codes "files")) found)
+files_served : (state : State) (found : List (List Cell)) → IsAnswered state ProgressFiles found ↔ IsAnswered state (Rows (codes "name" ∷ []) progress_schema (codes "files")) found
 files_served state found = (
   λ h. record { database = h.database; stands = h.stands; answers = h.answers; texts = h.texts },
   λ h. record { database = h.database; stands = h.stands; answers = h.answers; texts = h.texts },
 )
 
-asked_alike : (state : State) (found : List (List Cell)) (one query asked : Query) → query ≡ asked → Alike (IsAnswered state one found) (IsAnswered state asked found) → Alike (IsAnswered state one found) (IsAnswered state query found)
+asked_alike : (state : State) (found : List (List Cell)) (one query asked : Query) → query ≡ asked → (IsAnswered state one found ↔ IsAnswered state asked found) → IsAnswered state one found ↔ IsAnswered state query found
 asked_alike state found one query asked same alike =
     (λ h. subst (λ (k : Query). IsAnswered state k found) (sym same) (alike.0 h), λ h. alike.1 (subst (λ (k : Query). IsAnswered state k found) same h))
 
-rows_served : (state : State) (columns : List (List ℕ)) (schema table : List ℕ) (found : List (List Cell)) (a b : Bool) → asks_progress (codes "digest") (codes "dump") columns schema table ≡ a → asks_progress (codes "name") (codes "files") columns schema table ≡ b → Alike (QueryServed state (cond a ProgressDump (cond b ProgressFiles (Rows columns schema table))) found) (QueryServed state (Rows columns schema table) found)
+rows_served : (state : State) (columns : List (List ℕ)) (schema table : List ℕ) (found : List (List Cell)) (a b : Bool) → asks_progress (codes "digest") (codes "dump") columns schema table ≡ a → asks_progress (codes "name") (codes "files") columns schema table ≡ b → QueryServed state (cond a ProgressDump (cond b ProgressFiles (Rows columns schema table))) found ↔ QueryServed state (Rows columns schema table) found
 rows_served state columns schema table found true b p q = asked_alike state found ProgressDump (Rows columns schema table) _ (asked_rows (codes "digest") (codes "dump") columns schema table p) (dump_served state found)
 rows_served state columns schema table found false true p q = asked_alike state found ProgressFiles (Rows columns schema table) _ (asked_rows (codes "name") (codes "files") columns schema table q) (files_served state found)
 rows_served state columns schema table found false false p q = (λ e. e, λ e. e)
 
-pub query_served : (state : State) (query : Query) (found : List (List Cell)) → Alike (QueryServed state (read_query query) found) (QueryServed state query found)
+pub query_served : (state : State) (query : Query) (found : List (List Cell)) → QueryServed state (read_query query) found ↔ QueryServed state query found
 query_served state MasterStatus found = (λ e. e, λ e. e)
 query_served state BinaryLogStatus found = (λ e. e, λ e. e)
 query_served state Schemas found = (λ e. e, λ e. e)
