@@ -1,0 +1,10 @@
+//! Worked examples of what the files of a dump are called, and of what `metadata` says. Nothing here
+//! runs: the contracts are the examples.
+#![tactic(auto)]
+
+ghost use Rattle.folder_examples.specs.Names.{FileNames};
+
+/// What files are called, by examples of each kind.
+pub fn file_names()
+    ensures { FileNames }
+{}
