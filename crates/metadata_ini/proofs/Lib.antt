@@ -1,0 +1,4 @@
+pub mod NumberTexts
+pub mod Parts
+pub mod Spelled
+pub mod Texts
