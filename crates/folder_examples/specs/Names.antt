@@ -1,6 +1,6 @@
 -- Worked names of files.
 use Rattle.std.specs.Prelude.{◌≡◌, [], ◌∷◌, codes}
-use Rattle.folder_forms.specs.FileName.{file_text}
+use Rattle.folder_forms.specs.FileName.{file_text, IsNoFileName}
 use Rattle.folder_forms.specs.declared.file_kind.FileKind.TheVariants.{Object, Rows}
 use Rattle.object_forms.specs.declared.kind.Kind.TheVariants.{Schema, Table, Procedure, Function, View, Trigger, Event}
 
@@ -22,3 +22,9 @@ pub record FileNames : Type 0 where
       ≡ codes "a@2eb.x@2fy@2d1-schema.sql"
   pub not_ascii : file_text (Object Table) (195 ∷ 169 ∷ []) (codes "@") 0
       ≡ codes "@c3@a9.@40-schema.sql"
+
+-- what isn't the name of a file
+pub record OtherNames : Type 0 where
+  pub a_digit_in_upper_case : IsNoFileName (codes "a.B@2E-schema.sql")
+  pub a_needless_escape : IsNoFileName (codes "a@62.t-schema.sql")
+  pub an_empty_name : IsNoFileName (codes "s.-schema.sql")

@@ -2,9 +2,14 @@
 //! runs: the contracts are the examples.
 #![tactic(auto)]
 
-ghost use Rattle.folder_examples.specs.Names.{FileNames};
+ghost use Rattle.folder_examples.specs.Names.{FileNames, OtherNames};
 
 /// What files are called, by examples of each kind.
 pub fn file_names()
     ensures { FileNames }
+{}
+
+/// What isn't the name of a file, by examples.
+pub fn other_names()
+    ensures { OtherNames }
 {}
