@@ -8,7 +8,7 @@ use Rattle.object_forms.specs.declared.kind.Kind.TheVariants.{Schema, Table, Pro
 use Rattle.folder_forms.specs.FileName.{file_number, is_schema_file, ending}
 use Rattle.folder_forms.specs.declared.file_kind.FileKind.{FileKind}
 use Rattle.folder_forms.specs.declared.file_kind.FileKind.TheVariants.{Object, Rows}
-use Rattle.metadata_ini.specs.Division.{is_name_byte, IsNameFront, HasNumber, Divides, IsUndivided, IsEnding, IsNoEnding, IsObjectEnding, IsNoObjectEnding, IsBetweenNone, NumbersNone, joined}
+use Rattle.metadata_ini.specs.Division.{is_spelling_byte, IsNameFront, HasNumber, Divides, IsUndivided, IsNameEnding, IsNoNameEnding, IsObjectEnding, IsNoObjectEnding, IsBetweenNone, NumbersNone, joined}
 use Rattle.metadata_ini.proofs.NumberTexts.{same_numbers}
 
 -- fronts
@@ -19,44 +19,44 @@ head_drop [] (suc at) byte more e = absurd (omega (arith, ap length e))
 head_drop (c ∷ text) zero byte more e = ap (λ l. get_or l 0 0) e
 head_drop (c ∷ text) (suc at) byte more e = head_drop text at byte more e
 
-pub front_at : (text : List ℕ) (at : ℕ) → list_all is_name_byte (take at text) ≡ true → is_name_byte (get_or text at 0) ≡ false → IsNameFront text (take at text) (drop at text)
+pub front_at : (text : List ℕ) (at : ℕ) → list_all is_spelling_byte (take at text) ≡ true → is_spelling_byte (get_or text at 0) ≡ false → IsNameFront text (take at text) (drop at text)
 front_at text at spelled other = record {
   is = sym (take-append-drop at text);
   spelled = spelled;
-  ends = λ byte more e. ap is_name_byte (sym (head_drop text at byte more e)) ∙ other;
+  ends = λ byte more e. ap is_spelling_byte (sym (head_drop text at byte more e)) ∙ other;
 }
 
-pub front_all : (text rest : List ℕ) → list_all is_name_byte text ≡ true → rest ≡ [] → IsNameFront text text rest
+pub front_all : (text rest : List ℕ) → list_all is_spelling_byte text ≡ true → rest ≡ [] → IsNameFront text text rest
 front_all text rest spelled none = record {
   is = sym (append-nil text) ∙ ap (λ l. text ++ l) (sym none);
   spelled = spelled;
   ends = λ byte more e. absurd (omega (arith, ap length (sym none ∙ e)));
 }
 
-all_one : (c : ℕ) (l : List ℕ) → list_all is_name_byte (c ∷ l) ≡ true → is_name_byte c ≡ true
-all_one c l e = (and_parts (is_name_byte c) (list_all is_name_byte l) e).0
+all_one : (c : ℕ) (l : List ℕ) → list_all is_spelling_byte (c ∷ l) ≡ true → is_spelling_byte c ≡ true
+all_one c l e = (and_parts (is_spelling_byte c) (list_all is_spelling_byte l) e).0
 
-all_rest : (c : ℕ) (l : List ℕ) → list_all is_name_byte (c ∷ l) ≡ true → list_all is_name_byte l ≡ true
-all_rest c l e = (and_parts (is_name_byte c) (list_all is_name_byte l) e).1
+all_rest : (c : ℕ) (l : List ℕ) → list_all is_spelling_byte (c ∷ l) ≡ true → list_all is_spelling_byte l ≡ true
+all_rest c l e = (and_parts (is_spelling_byte c) (list_all is_spelling_byte l) e).1
 
 -- What stands in front of a byte that is of no name is one.
-same_fronts : (f g : List ℕ) (b c : ℕ) (x y : List ℕ) → list_all is_name_byte f ≡ true → list_all is_name_byte g ≡ true
-    → is_name_byte b ≡ false → is_name_byte c ≡ false → f ++ b ∷ x ≡ g ++ c ∷ y → (f ≡ g) × (b ∷ x ≡ c ∷ y)
+same_fronts : (f g : List ℕ) (b c : ℕ) (x y : List ℕ) → list_all is_spelling_byte f ≡ true → list_all is_spelling_byte g ≡ true
+    → is_spelling_byte b ≡ false → is_spelling_byte c ≡ false → f ++ b ∷ x ≡ g ++ c ∷ y → (f ≡ g) × (b ∷ x ≡ c ∷ y)
 same_fronts [] [] b c x y p q r s e = (refl, e)
-same_fronts [] (d ∷ g) b c x y p q r s e = cc (sym r ∙ ap (λ l. is_name_byte (get_or l 0 0)) e ∙ all_one d g q)
-same_fronts (d ∷ f) [] b c x y p q r s e = cc (sym s ∙ ap (λ l. is_name_byte (get_or l 0 0)) (sym e) ∙ all_one d f p)
+same_fronts [] (d ∷ g) b c x y p q r s e = cc (sym r ∙ ap (λ l. is_spelling_byte (get_or l 0 0)) e ∙ all_one d g q)
+same_fronts (d ∷ f) [] b c x y p q r s e = cc (sym s ∙ ap (λ l. is_spelling_byte (get_or l 0 0)) (sym e) ∙ all_one d f p)
 same_fronts (d ∷ f) (h ∷ g) b c x y p q r s e =
     let rest = same_fronts f g b c x y (all_rest d f p) (all_rest h g q) r s (ap (drop 1) e) in
     ((λ i. ap (λ l. get_or l 0 0) e i ∷ rest.0 i), rest.1)
 
-no_front : (f g : List ℕ) (c : ℕ) (y : List ℕ) → list_all is_name_byte f ≡ true → is_name_byte c ≡ false → f ≡ g ++ c ∷ y → ⊥
+no_front : (f g : List ℕ) (c : ℕ) (y : List ℕ) → list_all is_spelling_byte f ≡ true → is_spelling_byte c ≡ false → f ≡ g ++ c ∷ y → ⊥
 no_front [] [] c y p s e = cc e
 no_front [] (d ∷ g) c y p s e = cc e
-no_front (d ∷ f) [] c y p s e = cc (sym s ∙ ap (λ l. is_name_byte (get_or l 0 0)) (sym e) ∙ all_one d f p)
+no_front (d ∷ f) [] c y p s e = cc (sym s ∙ ap (λ l. is_spelling_byte (get_or l 0 0)) (sym e) ∙ all_one d f p)
 no_front (d ∷ f) (h ∷ g) c y p s e = no_front f g c y (all_rest d f p) s (ap (drop 1) e)
 
 -- The front that was found is the one that stands before such a byte.
-found_front : (text f r g : List ℕ) (c : ℕ) (y : List ℕ) → IsNameFront text f r → list_all is_name_byte g ≡ true → is_name_byte c ≡ false → text ≡ g ++ c ∷ y
+found_front : (text f r g : List ℕ) (c : ℕ) (y : List ℕ) → IsNameFront text f r → list_all is_spelling_byte g ≡ true → is_spelling_byte c ≡ false → text ≡ g ++ c ∷ y
     → (g ≡ f) × (c ∷ y ≡ r)
 found_front text f [] g c y front q s e = absurd (no_front f g c y front.spelled s (sym (append-nil f) ∙ sym front.is ∙ e))
 found_front text f (b ∷ r) g c y front q s e = same_fronts g f c b y r q front.spelled s (front.ends b r refl) (sym e ∙ front.is)
@@ -68,7 +68,7 @@ record Ends (text : List ℕ) : Type 0 where
   byte : ℕ
   more : List ℕ
   is : text ≡ byte ∷ more
-  other : is_name_byte byte ≡ false
+  other : is_spelling_byte byte ≡ false
 
 ends : (kind : FileKind) (number : ℕ) → Ends (ending kind number)
 ends (Object Schema) number = record { byte = 45; more = _; is = refl; other = refl }
@@ -150,7 +150,7 @@ after_by true (Object Event) name number after e is = cc is
 after_by true Rows name number after e is = cc is
 after_by false kind name number after e is = (refl, ap (drop 1) e)
 
-second : (after f r : List ℕ) (kind : FileKind) (name : List ℕ) (number : ℕ) → IsNameFront after f r → list_all is_name_byte name ≡ true
+second : (after f r : List ℕ) (kind : FileKind) (name : List ℕ) (number : ℕ) → IsNameFront after f r → list_all is_spelling_byte name ≡ true
     → name ++ ending kind number ≡ after → (name ≡ f) × (ending kind number ≡ r)
 second after f r kind name number front spelled is =
     let t = ends kind number in
@@ -175,7 +175,7 @@ no_division text f r front none other kind schema name number d =
     let there = (before text f r kind schema name number front d).1 in
     schema_by kind name number (is_schema_file kind) refl (λ e. none (sym there ∙ e)) (λ after e. other after (sym there ∙ e))
 
-pub no_ending : (text f r after g end : List ℕ) → IsNameFront text f r → r ≡ 46 ∷ after → IsNameFront after g end → IsNoEnding end → IsUndivided text
+pub no_ending : (text f r after g end : List ℕ) → IsNameFront text f r → r ≡ 46 ∷ after → IsNameFront after g end → IsNoNameEnding end → IsUndivided text
 no_ending text f r after g end front point next none kind schema name number d =
     let there = (before text f r kind schema name number front d).1 in
     let found = after_by (is_schema_file kind) kind name number after (there ∙ point) refl in
@@ -199,7 +199,7 @@ joined_by true kind text f r after g end number is e p q l = cc is
 joined_by false kind text f r after g end number is e p q l =
     e ∙ ap (λ x. f ++ x) (p ∙ ap (λ x. 46 ∷ x) (q ∙ ap (λ x. g ++ x) l)) ∙ sym (joined_tail false kind f g number)
 
-pub named_division : (text f r after g end : List ℕ) (kind : FileKind) (number : ℕ) → IsNameFront text f r → r ≡ 46 ∷ after → IsNameFront after g end → IsEnding end kind number → Divides text kind f g number
+pub named_division : (text f r after g end : List ℕ) (kind : FileKind) (number : ℕ) → IsNameFront text f r → r ≡ 46 ∷ after → IsNameFront after g end → IsNameEnding end kind number → Divides text kind f g number
 named_division text f r after g end kind number front point next ending_is = record {
   is = joined_by (is_schema_file kind) kind text f r after g end number ending_is.no_schema front.is point next.is ending_is.is;
   schema_spelled = front.spelled;
@@ -238,13 +238,13 @@ divided_front text kind schema name number d =
     record {
       is = d.is ∙ joined_tail (is_schema_file kind) kind schema name number;
       spelled = d.schema_spelled;
-      ends = λ byte more e. ap is_name_byte (ap (λ l. get_or l 0 0) (sym e ∙ t.is)) ∙ t.other;
+      ends = λ byte more e. ap is_spelling_byte (ap (λ l. get_or l 0 0) (sym e ∙ t.is)) ∙ t.other;
     }
 
-named_front : (kind : FileKind) (name : List ℕ) (number : ℕ) → list_all is_name_byte name ≡ true → IsNameFront (name ++ ending kind number) name (ending kind number)
+named_front : (kind : FileKind) (name : List ℕ) (number : ℕ) → list_all is_spelling_byte name ≡ true → IsNameFront (name ++ ending kind number) name (ending kind number)
 named_front kind name number spelled =
     let t = ends kind number in
-    record { is = refl; spelled = spelled; ends = λ byte more e. ap is_name_byte (ap (λ l. get_or l 0 0) (sym e ∙ t.is)) ∙ t.other }
+    record { is = refl; spelled = spelled; ends = λ byte more e. ap is_spelling_byte (ap (λ l. get_or l 0 0) (sym e ∙ t.is)) ∙ t.other }
 
 -- two divisions have the same parts
 pub record SameParts (a b : FileKind) (s t m n : List ℕ) (i j : ℕ) : Type 0 where
@@ -254,7 +254,7 @@ pub record SameParts (a b : FileKind) (s t m n : List ℕ) (i j : ℕ) : Type 0 
   pub numbers : i ≡ j
 
 same_by : (p q : Bool) (a b : FileKind) (s t m n : List ℕ) (i j : ℕ) → p ≡ q → is_schema_file a ≡ p → is_schema_file b ≡ q → s ≡ t → tail p a m i ≡ tail q b n j
-    → (p ≡ true → m ≡ s) → (q ≡ true → n ≡ t) → HasNumber a i → HasNumber b j → list_all is_name_byte m ≡ true → list_all is_name_byte n ≡ true → SameParts a b s t m n i j
+    → (p ≡ true → m ≡ s) → (q ≡ true → n ≡ t) → HasNumber a i → HasNumber b j → list_all is_spelling_byte m ≡ true → list_all is_spelling_byte n ≡ true → SameParts a b s t m n i j
 same_by true true a b s t m n i j pq pa qb st e ms nt hi hj lm ln =
     let ended = same_endings a b i j hi hj e in
     record { kinds = ended.0; schemas = st; names = ms refl ∙ st ∙ sym (nt refl); numbers = ended.1 }
@@ -284,15 +284,15 @@ no_object_ending text t p f v g e View is = v is.is
 no_object_ending text t p f v g e Trigger is = g is.is
 no_object_ending text t p f v g e Event is = e is.is
 
-pub no_ending_of : (text : List ℕ) → IsNoObjectEnding text → NumbersNone text → IsNoEnding text
+pub no_ending_of : (text : List ℕ) → IsNoObjectEnding text → NumbersNone text → IsNoNameEnding text
 no_ending_of text none numbers (Object kind) number is =
     none kind (record { is = is.is ∙ ap (ending (Object kind)) (is.numbered.none (λ rows. cc rows)); no_schema = is.no_schema })
 no_ending_of text none numbers Rows number is = numbers number is.numbered.size is.is
 
-pub object_ended : (text : List ℕ) (kind : Kind) → IsObjectEnding text kind → IsEnding text (Object kind) 0
+pub object_ended : (text : List ℕ) (kind : Kind) → IsObjectEnding text kind → IsNameEnding text (Object kind) 0
 object_ended text kind is = record { is = is.is; no_schema = is.no_schema; numbered = record { none = λ _. refl; size = omega arith } }
 
-pub rows_ended : (text : List ℕ) (number : ℕ) → number < 2 ^ 32 → text ≡ codes "." ++ file_number number ++ codes ".sql" → IsEnding text Rows number
+pub rows_ended : (text : List ℕ) (number : ℕ) → number < 2 ^ 32 → text ≡ codes "." ++ file_number number ++ codes ".sql" → IsNameEnding text Rows number
 rows_ended text number small is = record { is = is; no_schema = refl; numbered = record { none = λ other. absurd (other refl); size = small } }
 
 pub numbers_between : (text inner : List ℕ) → text ≡ codes "." ++ inner ++ codes ".sql" → ((number : ℕ) → number < 2 ^ 32 → inner ≢ file_number number) → NumbersNone text

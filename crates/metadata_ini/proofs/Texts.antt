@@ -10,7 +10,7 @@ use Rattle.object_forms.specs.declared.kind.Kind.TheVariants.{Schema, Table, Pro
 use Rattle.folder_forms.specs.FileName.{file_number, NamedFile, HasFileName, IsFileName, IsNoFileName, file_text, front_names, ending, is_schema_file, file_of}
 use Rattle.folder_forms.specs.declared.file_kind.FileKind.{FileKind}
 use Rattle.folder_forms.specs.declared.file_kind.FileKind.TheVariants.{Object, Rows}
-use Rattle.metadata_ini.specs.Division.{is_name_byte, HasNumber, Divides, IsUndivided, joined}
+use Rattle.metadata_ini.specs.Division.{is_spelling_byte, HasNumber, Divides, IsUndivided, joined}
 use Rattle.metadata_ini.specs.Fault.{IsNoName}
 use Rattle.metadata_ini.specs.declared.fault.NameFault.{NameFault}
 use Rattle.metadata_ini.specs.declared.fault.NameFault.TheVariants.{NotAName, OutOfMemory}
@@ -87,24 +87,24 @@ is_utf8 text file named = subst IsUtf8 (sym named.is) (text_utf8 file named.may_
 
 -- the division of a file's name
 
-all_append : (a b : List ℕ) → list_all is_name_byte a ≡ true → list_all is_name_byte b ≡ true → list_all is_name_byte (a ++ b) ≡ true
+all_append : (a b : List ℕ) → list_all is_spelling_byte a ≡ true → list_all is_spelling_byte b ≡ true → list_all is_spelling_byte (a ++ b) ≡ true
 all_append [] b p q = q
 all_append (c ∷ a) b p q =
-    let parts = and_parts (is_name_byte c) (list_all is_name_byte a) p in
-    ap (λ x. x && list_all is_name_byte (a ++ b)) parts.0 ∙ all_append a b parts.1 q
+    let parts = and_parts (is_spelling_byte c) (list_all is_spelling_byte a) p in
+    ap (λ x. x && list_all is_spelling_byte (a ++ b)) parts.0 ∙ all_append a b parts.1 q
 
-stands_name : (b : ℕ) → stands_as_it_is b ≡ true → is_name_byte b ≡ true
+stands_name : (b : ℕ) → stands_as_it_is b ≡ true → is_spelling_byte b ≡ true
 stands_name b e = ap (λ x. x || (b == 64)) e
 
 abbrev sixteen : List ℕ
 sixteen = 0 ∷ 1 ∷ 2 ∷ 3 ∷ 4 ∷ 5 ∷ 6 ∷ 7 ∷ 8 ∷ 9 ∷ 10 ∷ 11 ∷ 12 ∷ 13 ∷ 14 ∷ 15 ∷ []
 
-lower_names : list_all (λ d. is_name_byte (lower_digit d)) sixteen ≡ true
+lower_names : list_all (λ d. is_spelling_byte (lower_digit d)) sixteen ≡ true
 lower_names = refl
 
-member : (l : List ℕ) (i d : ℕ) → list_all (λ d. is_name_byte (lower_digit d)) l ≡ true → i < length l → get_or l i 0 ≡ d → is_name_byte (lower_digit d) ≡ true
+member : (l : List ℕ) (i d : ℕ) → list_all (λ d. is_spelling_byte (lower_digit d)) l ≡ true → i < length l → get_or l i 0 ≡ d → is_spelling_byte (lower_digit d) ≡ true
 member [] i d p q e = absurd (omega arith)
-member (c ∷ l) zero d p q e = ap (λ x. is_name_byte (lower_digit x)) (sym e) ∙ (and_parts _ _ p).0
+member (c ∷ l) zero d p q e = ap (λ x. is_spelling_byte (lower_digit x)) (sym e) ∙ (and_parts _ _ p).0
 member (c ∷ l) (suc i) d p q e = member l i d (and_parts _ _ p).1 (omega arith) e
 
 digit_at : (d : ℕ) → d < 16 → get_or sixteen d 0 ≡ d
@@ -126,18 +126,18 @@ digit_at (suc (suc (suc (suc (suc (suc (suc (suc (suc (suc (suc (suc (suc (suc z
 digit_at (suc (suc (suc (suc (suc (suc (suc (suc (suc (suc (suc (suc (suc (suc (suc zero))))))))))))))) s = refl
 digit_at (suc (suc (suc (suc (suc (suc (suc (suc (suc (suc (suc (suc (suc (suc (suc (suc d)))))))))))))))) s = absurd (omega arith)
 
-digit_name : (d : ℕ) → d < 16 → is_name_byte (lower_digit d) ≡ true
+digit_name : (d : ℕ) → d < 16 → is_spelling_byte (lower_digit d) ≡ true
 digit_name d small = member sixteen d d lower_names small (digit_at d small)
 
-spelled_by : (b : ℕ) (s : Bool) → b < 256 → stands_as_it_is b ≡ s → list_all is_name_byte (cond s (b ∷ []) (64 ∷ lower_digit (b / 16) ∷ lower_digit (b % 16) ∷ [])) ≡ true
+spelled_by : (b : ℕ) (s : Bool) → b < 256 → stands_as_it_is b ≡ s → list_all is_spelling_byte (cond s (b ∷ []) (64 ∷ lower_digit (b / 16) ∷ lower_digit (b % 16) ∷ [])) ≡ true
 spelled_by b true small p = ap (λ x. x && true) (stands_name b p)
 spelled_by b false small p =
     (λ i. true && (digit_name (b / 16) (omega arith) i && (digit_name (b % 16) (omega arith) i && true)))
 
-byte_spelled : (b : ℕ) → b < 256 → list_all is_name_byte (file_name_byte b) ≡ true
+byte_spelled : (b : ℕ) → b < 256 → list_all is_spelling_byte (file_name_byte b) ≡ true
 byte_spelled b small = spelled_by b (stands_as_it_is b) small refl
 
-escaped_spelled : (name : List ℕ) → AreBytes name → list_all is_name_byte (escaped_name name) ≡ true
+escaped_spelled : (name : List ℕ) → AreBytes name → list_all is_spelling_byte (escaped_name name) ≡ true
 escaped_spelled [] are = refl
 escaped_spelled (b ∷ name) are = all_append (file_name_byte b) (escaped_name name) (byte_spelled b are.0) (escaped_spelled name are.1)
 

@@ -8,14 +8,14 @@ use Rattle.folder_forms.specs.declared.file_kind.FileKind.{FileKind}
 use Rattle.folder_forms.specs.declared.file_kind.FileKind.TheVariants.{Object, Rows}
 
 -- a byte that may stand in the spelling of a name
-abbrev pub is_name_byte : ℕ → Bool
-is_name_byte byte = stands_as_it_is byte || byte == 64
+abbrev pub is_spelling_byte : ℕ → Bool
+is_spelling_byte byte = stands_as_it_is byte || byte == 64
 
 -- a text begins with just so many bytes of names
 pub record IsNameFront (text front rest : List ℕ) : Type 0 where
   pub is : text ≡ front ++ rest
-  pub spelled : list_all is_name_byte front ≡ true
-  pub ends : (byte : ℕ) (more : List ℕ) → rest ≡ byte ∷ more → is_name_byte byte ≡ false
+  pub spelled : list_all is_spelling_byte front ≡ true
+  pub ends : (byte : ℕ) (more : List ℕ) → rest ≡ byte ∷ more → is_spelling_byte byte ≡ false
 
 -- the text doesn't begin with a point and end as the name of a file of rows does
 abbrev pub IsBetweenNone : List ℕ → Type 0
@@ -45,24 +45,25 @@ pub record HasNumber (kind : FileKind) (number : ℕ) : Type 0 where
   pub size : number < 2 ^ 32
 
 -- the name of a file of that kind ends so, that of a schema aside
-pub record IsEnding (text : List ℕ) (kind : FileKind) (number : ℕ) : Type 0 where
+pub record IsNameEnding (text : List ℕ) (kind : FileKind) (number : ℕ) : Type 0 where
   pub is : text ≡ ending kind number
   pub no_schema : is_schema_file kind ≡ false
   pub numbered : HasNumber kind number
 
 -- the name of no such file ends so
-abbrev pub IsNoEnding : List ℕ → Type 0
-IsNoEnding text = (kind : FileKind) (number : ℕ) → ¬ IsEnding text kind number
+abbrev pub IsNoNameEnding : List ℕ → Type 0
+IsNoNameEnding text = (kind : FileKind) (number : ℕ) → ¬ IsNameEnding text kind number
 
 -- the spelled names that a file's name begins with
 abbrev pub joined : FileKind → List ℕ → List ℕ → List ℕ
 joined kind schema name = if is_schema_file kind then schema else schema ++ codes "." ++ name
 
 -- the parts of a file's name, the names as they are spelled
-pub record Divides (text : List ℕ) (kind : FileKind) (schema name : List ℕ) (number : ℕ) : Type 0 where
+pub record Divides (text : List ℕ) (kind : FileKind) (schema name : List ℕ) (number : ℕ)
+    : Type 0 where
   pub is : text ≡ joined kind schema name ++ ending kind number
-  pub schema_spelled : list_all is_name_byte schema ≡ true
-  pub name_spelled : list_all is_name_byte name ≡ true
+  pub schema_spelled : list_all is_spelling_byte schema ≡ true
+  pub name_spelled : list_all is_spelling_byte name ≡ true
   pub one_schema : is_schema_file kind ≡ true → name ≡ schema
   pub numbered : HasNumber kind number
 

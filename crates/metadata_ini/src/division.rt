@@ -1,7 +1,7 @@
 //! The name of a file, divided into its parts.
 ghost use Rattle.std.specs.Prelude.{◌≡◌, ◌≢◌, ◌∷◌, ◌++◌, ◌<◌, ◌^◌, codes, MatchOption};
 ghost use Rattle.folder_forms.specs.FileName.{file_number};
-ghost use Rattle.metadata_ini.specs.Division.{BeginsOtherwise, Divides, IsEnding, IsNoEnding, IsObjectEnding, IsNoObjectEnding, IsBetweenNone, IsNameFront, IsUndivided, NumbersNone, is_name_byte};
+ghost use Rattle.metadata_ini.specs.Division.{BeginsOtherwise, Divides, IsNameEnding, IsNoNameEnding, IsObjectEnding, IsNoObjectEnding, IsBetweenNone, IsNameFront, IsUndivided, NumbersNone, is_spelling_byte};
 
 use crate::numbers::read_file_number;
 use crate::spelling::stands;
@@ -17,8 +17,8 @@ pub(crate) struct Division<'a> {
     pub(crate) number: u32,
 }
 
-fn is_name_byte(byte: u8) -> bool
-    ensures { result ≡ is_name_byte byte }
+fn is_spelling_byte(byte: u8) -> bool
+    ensures { result ≡ is_spelling_byte byte }
 {
     stands(byte) || byte == b'@'
 }
@@ -28,7 +28,7 @@ fn front(text: &[u8]) -> (&[u8], &[u8])
     ensures { IsNameFront text.now result.0.now result.1.now }
 {
     for at in 0..text.len() {
-        if !is_name_byte(text[at]) {
+        if !is_spelling_byte(text[at]) {
             return text.split_at(at);
         }
     }
@@ -91,7 +91,7 @@ fn object_ending(text: &[u8]) -> Option<Kind>
 // The kind and the number of a file whose name ends so, where that isn't a schema's.
 #[tactic(auto, using(crate::proofs::Parts::no_ending_of, crate::proofs::Parts::object_ended, crate::proofs::Parts::rows_ended))]
 fn read_ending(text: &[u8]) -> Option<(FileKind, u32)>
-    ensures { MatchOption result (IsNoEnding text.now) (λ r. IsEnding text.now r.0 r.1) }
+    ensures { MatchOption result (IsNoNameEnding text.now) (λ r. IsNameEnding text.now r.0 r.1) }
 {
     if let Some(kind) = object_ending(text) {
         return Some((FileKind::Object(kind), 0));

@@ -157,7 +157,6 @@ impl FileNameText for FileName {
 }
 
 /// A law: a text is the name of one file at most. Does nothing.
-
 pub fn one_file()
     ensures { (text : List ℕ) (a b : NamedFile) → IsFileName text a → IsFileName text b → a ≡ b }
 {}
