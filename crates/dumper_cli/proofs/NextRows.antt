@@ -3,6 +3,7 @@ use Rattle.std.proofs.Common.{◌≡◌, ◌<◌, ◌↔◌, ℕ, List, [], ◌�
 use Rattle.link_traits.specs.declared.link.Link.{Ghosts as LinkGhosts}
 use Rattle.link_traits.specs.declared.folder.Shelf.{Ghosts as ShelfGhosts}
 use Rattle.my_session.specs.Awaited.{further}
+use Rattle.my_session.specs.Coming.{NextServed, reached_by}
 use Rattle.my_session.specs.Session.{SessionView, Pending, NextRow, IsSameServer, reader_view}
 use Rattle.my_session.specs.declared.fault.SessionFault.{SessionFault}
 use Rattle.my_session.specs.declared.peer.Peer.{Peer}
@@ -25,7 +26,7 @@ use Rattle.dumper_cli.proofs.Reaching.{Keeps-by, column_added, row_added, column
 
 -- what the next row does to a session
 abbrev pub Nexts : {L : Type 0} → LinkGhosts L → SessionView L → Result (Option Row) SessionFault → SessionView L → Type 0
-Nexts of old result new = NextRow (of.tells old.link) (reader_view of old) result (of.tells new.link) (reader_view of new) × IsSameServer {S = SessionView _} (λ s. of.honest s.link) (λ one other. of.same_origin one.link other.link) (λ s. (of.served s.link).state.terms) old new
+Nexts of old result new = NextRow (of.tells old.link) (reader_view of old) result (of.tells new.link) (reader_view of new) × IsSameServer {S = SessionView _} (λ s. of.honest s.link) (λ one other. of.same_origin one.link other.link) (λ s. of.served s.link) old new × (of.honest old.link → NextServed old.pending.form (reached_by (reader_view of old) (of.served old.link)) result (reached_by (reader_view of new) (of.served new.link)))
 
 module _ {L : Type 0} (of : LinkGhosts L) (joins : (one next last : L) → of.same_origin one next → of.same_origin next last → of.same_origin one last) (old new : SessionView L) where
   pub nexts_keeps : (result : Result (Option Row) SessionFault) → Nexts of old result new → Keeps of old new

@@ -3,7 +3,14 @@ use Rattle.std.proofs.Common.{◌≡◌, ◌==◌, ℕ, Bool, true, false, if◌
 use Rattle.std.proofs.lemmas.Bool.{eqb-true}
 use Rattle.honest_server.specs.Exchange.{Replies, accepted, switched, turned_away, quits, served, unknown, ignored, IsLoggingIn, AsksFor}
 use Rattle.honest_server.specs.Moves.{Way}
-use Rattle.honest_server.specs.State.{State, Phase, switching, in_session}
+use Rattle.honest_server.specs.State.{State, Phase, switching}
+use Rattle.statement_forms.specs.declared.form.Form.TheVariants.{Connect}
+use Rattle.my_session.specs.Awaited.{decision_fault, done_fault, switch_fault}
+use Rattle.my_session.specs.InStep.{Decides, takes, asks, turns_away}
+use Rattle.my_session.specs.Served.{FailsLogin, TurnsAway, at_connect, logged_in}
+use Rattle.my_session.specs.declared.fault.SessionFault.{SessionFault}
+use Rattle.my_session.specs.declared.fault.SessionFault.TheVariants.{Refused as IsRefusal, PluginUnsupported as NeedsPlugin}
+use Rattle.wire_forms.specs.declared.reply.Reply.{Reply}
 use Rattle.wire_forms.specs.Switch.{switch_of, after_request}
 use Rattle.wire_forms.specs.declared.login_fault.LoginFault.{LoginFault}
 use Rattle.wire_forms.specs.declared.login_fault.LoginFault.TheVariants.{PluginUnsupported, Garbled}
@@ -72,34 +79,76 @@ asks_begins : (plugin message : List ℕ) → AsksFor plugin message → Begins 
 asks_begins plugin message (inl native) = switch_begins message native.1 native.2
 asks_begins plugin message (inr other) = unsupported_begins message (kept_text plugin) other.1
 
--- ---- the answer to a login: an OK only where the session is open then, and a request for another scramble only where its answer is awaited
+-- ---- the answer to a login is one message
 
-pub record IsLoginAnswer (messages : List (List ℕ)) (new : State) : Type 0 where
+pub record IsLoginAnswer (start : State) (messages : List (List ℕ)) (new : State) : Type 0 where
   pub message : List ℕ
   pub messages_are : messages ≡ message ∷ []
-  pub taken : reply_of message ≡ Some Done → new.phase ≡ in_session
-  pub asked : (found : Switch) → switch_of message ≡ Ok found → new.phase ≡ switching
+  pub decides : Decides start message new
 
-pub login_answer : (way : Way) (state : State) (payload : List ℕ) (messages : List (List ℕ)) (new : State) → IsLoggingIn state.phase → Replies way state payload messages new → IsLoginAnswer messages new
-login_answer way state payload messages new here (accepted logging says new_is) = record {
-  message = says.message;
-  messages_are = says.messages_are;
-  taken = λ is. ap (λ (s : State). s.phase) new_is;
-  asked = λ found is. absurd (apart 0 254 says.message (done_begins says.message says.says) (switch_begins says.message found is) (λ e. omega arith));
-}
-login_answer way state payload messages new here (switched message phase asks lean messages_are new_is) = record {
-  message = message;
-  messages_are = messages_are;
-  taken = λ is. absurd (apart 0 254 message (done_begins message is) (asks_begins state.terms.server.plugin message asks) (λ e. omega arith));
-  asked = λ found is. ap (λ (s : State). s.phase) new_is;
-}
+pub login_answer : (way : Way) (state : State) (payload : List ℕ) (messages : List (List ℕ)) (new : State) → IsLoggingIn state.phase → Replies way state payload messages new → IsLoginAnswer state messages new
+login_answer way state payload messages new here (accepted logging says new_is) = record { message = says.message; messages_are = says.messages_are; decides = takes says.says new_is }
+login_answer way state payload messages new here (switched message phase request lean messages_are new_is) = record { message = message; messages_are = messages_are; decides = asks phase request new_is }
 login_answer way state payload messages new here (turned_away refusal logging unwilling says new_is) = record {
   message = says.message;
   messages_are = says.messages_are;
-  taken = λ is. absurd (apart 0 255 says.message (done_begins says.message is) (refused_begins says.message refusal says.says) (λ e. omega arith));
-  asked = λ found is. absurd (apart 254 255 says.message (switch_begins says.message found is) (refused_begins says.message refusal says.says) (λ e. omega arith));
+  decides = turns_away refusal says.says record { unwilling = unwilling; new_is = new_is };
 }
 login_answer way state payload messages new here (quits phase payload_is messages_are new_is) = absurd (subst (λ (p : Phase). IsLoggingIn p) phase here)
 login_answer way state payload messages new here (served text statement reply phase payload_is read serves spells) = absurd (subst (λ (p : Phase). IsLoggingIn p) phase here)
 login_answer way state payload messages new here (unknown refusal more phase nothing gives says) = absurd (subst (λ (p : Phase). IsLoggingIn p) phase here)
 login_answer way state payload messages new here (ignored phase messages_are new_is) = absurd (subst (λ (p : Phase). IsLoggingIn p) phase here)
+
+-- ---- an OK is heard only where the login was taken, a request for another scramble only where its answer is awaited
+
+pub decided_done : (start new : State) (message : List ℕ) → Decides start message new → reply_of message ≡ Some Done → new ≡ logged_in start
+decided_done start new message (takes says new_is) is = new_is
+decided_done start new message (asks phase request new_is) is = absurd (apart 0 254 message (done_begins message is) (asks_begins start.terms.server.plugin message request) (λ e. omega arith))
+decided_done start new message (turns_away refusal says turns) is = absurd (apart 0 255 message (done_begins message is) (refused_begins message refusal says) (λ e. omega arith))
+
+pub decided_switch : (start new : State) (message : List ℕ) (found : Switch) → Decides start message new → switch_of message ≡ Ok found → new ≡ record start { phase = switching }
+decided_switch start new message found (takes says new_is) is = absurd (apart 0 254 message (done_begins message says) (switch_begins message found is) (λ e. omega arith))
+decided_switch start new message found (asks phase request new_is) is = new_is
+decided_switch start new message found (turns_away refusal says turns) is = absurd (apart 254 255 message (switch_begins message found is) (refused_begins message refusal says) (λ e. omega arith))
+
+-- ---- what is answered to a message that is heard in its place
+
+none_is_some : (fault : SessionFault) → None ≡ Some fault → ⊥
+none_is_some fault is = cc
+
+same_fault : (fault other : SessionFault) → Some fault ≡ Some other → fault ≡ other
+same_fault fault other is = cc
+
+connect_refused : (start new : State) (refusal : Refusal) (fault : SessionFault) → TurnsAway start refusal new → Some (IsRefusal Connect refusal) ≡ Some fault → FailsLogin start fault new
+connect_refused start new refusal fault turns is = subst (λ (f : SessionFault). FailsLogin start f new) (same_fault (IsRefusal Connect refusal) fault is) (at_connect refl turns)
+
+fault_asked : (place : ℕ) (message : List ℕ) (reply : Option Reply) (fault : SessionFault) → (reply ≡ Some Done → ⊥) → ((refusal : Refusal) → reply ≡ Some (IsRefused refusal) → ⊥) → decision_fault place message reply ≡ Some fault → switch_fault place (switch_of message) ≡ Some fault
+fault_asked place message (Some Done) fault not_done not_refused is = absurd (not_done refl)
+fault_asked place message (Some (IsRefused refusal)) fault not_done not_refused is = absurd (not_refused refusal refl)
+fault_asked place message (Some (Columns columns)) fault not_done not_refused is = is
+fault_asked place message None fault not_done not_refused is = is
+
+another_asked : (start new : State) (place : ℕ) (message : List ℕ) (fault : SessionFault) → AsksFor start.terms.server.plugin message → new ≡ record start { phase = switching } → switch_fault place (switch_of message) ≡ Some fault → FailsLogin start fault new
+another_asked start new place message fault (inl native) new_is is = absurd (none_is_some fault (sym (ap (λ (r : Result Switch LoginFault). switch_fault place r) native.2) ∙ is))
+another_asked start new place message fault (inr other) new_is is =
+    let name = kept_text start.terms.server.plugin in
+    subst (λ (f : SessionFault). FailsLogin start f new)
+    (same_fault (NeedsPlugin name) fault (sym (ap (λ (r : Result Switch LoginFault). switch_fault place r) other.1) ∙ is))
+    record { other = other.0; name_is = refl; new_is = new_is }
+
+pub decided_fault : (start new : State) (place : ℕ) (message : List ℕ) (fault : SessionFault) → Decides start message new → decision_fault place message (reply_of message) ≡ Some fault → FailsLogin start fault new
+decided_fault start new place message fault (takes says new_is) is = absurd (none_is_some fault (sym (ap (λ (r : Option Reply). decision_fault place message r) says) ∙ is))
+decided_fault start new place message fault (asks phase request new_is) is =
+    let begins = asks_begins start.terms.server.plugin message request in
+    another_asked start new place message fault request new_is
+    (fault_asked place message (reply_of message) fault
+    (λ ok. apart 0 254 message (done_begins message ok) begins (λ e. omega arith))
+    (λ refusal err. apart 255 254 message (refused_begins message refusal err) begins (λ e. omega arith))
+    is)
+decided_fault start new place message fault (turns_away refusal says turns) is = connect_refused start new refusal fault turns (sym (ap (λ (r : Option Reply). decision_fault place message r) says) ∙ is)
+
+-- once another scramble was answered, none is asked for again
+pub switched_fault : (start new : State) (place : ℕ) (message : List ℕ) (reply : Option Reply) (fault : SessionFault) → start.phase ≡ switching → Decides start message new → reply_of message ≡ reply → done_fault Connect place reply ≡ Some fault → FailsLogin start fault new
+switched_fault start new place message reply fault here (takes says new_is) read is = absurd (none_is_some fault (sym (ap (λ (r : Option Reply). done_fault Connect place r) (sym read ∙ says)) ∙ is))
+switched_fault start new place message reply fault here (asks phase request new_is) read is = absurd (cc)
+switched_fault start new place message reply fault here (turns_away refusal says turns) read is = connect_refused start new refusal fault turns (sym (ap (λ (r : Option Reply). done_fault Connect place r) (sym read ∙ says)) ∙ is)

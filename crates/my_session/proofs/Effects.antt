@@ -4,8 +4,8 @@ use Rattle.honest_server.specs.Insert.{Insertion}
 use Rattle.server_data.specs.declared.data.Need.{Need}
 use Rattle.honest_server.specs.Effect.{Commits, EndsOpen, Creates, GoesInto, InsertsInto, Effect}
 use Rattle.honest_server.specs.Exchange.{Replies, accepted, switched, turned_away, quits, served, unknown, ignored, Exchanges}
-use Rattle.honest_server.specs.Link.{ServedLink, Breaks}
-use Rattle.honest_server.specs.Moves.{Way, plainly}
+use Rattle.honest_server.specs.Link.{ServedLink, Breaks, CommitsAloneBy}
+use Rattle.honest_server.specs.Moves.{Way, plainly, beside}
 use Rattle.honest_server.specs.Serve.{Reply, done, rows, refused, Serves, GivesErr}
 use Rattle.honest_server.specs.State.{State, with_others, with_own}
 use Rattle.wire_forms.specs.declared.refusal.Refusal.{Refusal}
@@ -102,11 +102,15 @@ replies_terms way state payload messages new (ignored phase messages_are is) = a
 pub exchanges_terms : (way : Way) (state : State) (message reply : List ℕ) (new : State) → Exchanges way state message reply new → new.terms ≡ state.terms
 exchanges_terms way state message reply new exchanges = replies_terms way state exchanges.payload exchanges.messages new exchanges.replies
 
-pub breaks_terms : (old new : ServedLink) (message : List ℕ) → Breaks plainly old message new → new.state.terms ≡ old.state.terms
-breaks_terms old new message breaks = elim breaks.left [
-  | inl whole ↦ exchanges_terms plainly old.state message whole.0 new.state whole.1
+alone_terms : (way : Way) (state : State) (message : List ℕ) (new : State) → CommitsAloneBy way state message new → new.terms ≡ state.terms
+alone_terms plainly state message new alone = (ends_keeps (with_others state alone.more) state.pending new alone.ended).terms
+alone_terms (beside holder) state message new never = absurd never
+
+pub breaks_terms : (way : Way) (old new : ServedLink) (message : List ℕ) → Breaks way old message new → new.state.terms ≡ old.state.terms
+breaks_terms way old new message breaks = elim breaks.left [
+  | inl whole ↦ exchanges_terms way old.state message whole.0 new.state whole.1
   | inr part ↦ elim part [
-    | inl alone ↦ (ends_keeps (with_others old.state alone.more) old.state.pending new.state alone.ended).terms
+    | inl alone ↦ alone_terms way old.state message new.state alone
     | inr same ↦ ap (λ (s : State). s.terms) same
   ]
 ]

@@ -17,11 +17,13 @@ use Rattle.my_session.proofs.Exact.{exact_at_first, exact_after}
 use Rattle.my_session.proofs.Links.{taken_off, recv_alive, recv_gives}
 use Rattle.my_session.proofs.Payloads.{part_is_not_all}
 use Rattle.my_session.proofs.Staying.{stays_begin, stays_on, keeps_ok, keeps_err}
+use Rattle.my_session.proofs.Unheard.{in_order, longer, unended}
 use Rattle.my_session.proofs.Within.{wrong_within, full_within}
-use Rattle.my_session.specs.Channel.{link_at, wire_at, HearsNext, HearsNone, IsOfChannel}
+use Rattle.my_session.specs.Channel.{wire_at, HearsNext, HearsNone, IsOfChannel}
+use Rattle.my_session.specs.Session.{link_at}
 use Rattle.my_session.specs.Halt.{Misheard}
-use Rattle.my_session.specs.Receiving.{Fetches, HoldsTaken, HoldsAtMostOne, IsReader, Unfetched, Unsettled, reader_at}
-use Rattle.my_session.specs.Serving.{IsServing, MessageWaits, KeepsLink, Stays, Gives, Delivers}
+use Rattle.my_session.specs.Receiving.{Fetches, HoldsTaken, HoldsAtMostOne, IsReader, SaysNothing, Unfetched, Unsettled, reader_at}
+use Rattle.my_session.specs.Serving.{IsServing, IsUnheard, MessageWaits, KeepsLink, Stays, Gives, Delivers}
 use Rattle.my_session.specs.Wire.{Hears, IsOnward, within}
 use Rattle.my_session.specs.declared.fault.SessionFault.{SessionFault}
 use Rattle.my_session.specs.declared.fault.SessionFault.TheVariants.{Link, Refused, Garbled, NotProtocol10, PluginUnsupported, TooLong, StreamTooLong, OutOfMemory}
@@ -254,8 +256,28 @@ module _ {L : Type 0} (of : Ghosts L) where
     unsettled_kind StreamTooLong why = absurd why
     unsettled_kind OutOfMemory why = absurd why
 
+    wrong_is : (fault : FrameFault) → IsWrong frames.limit frames.id frames.bytes fault → IsWrong 67108864 first.id frames.bytes fault
+    wrong_is fault wrong = subst (λ (n : ℕ). IsWrong n first.id frames.bytes fault) (gathers.limit ∙ limited) (subst (λ (n : ℕ). IsWrong frames.limit n frames.bytes fault) gathers.id wrong)
+
+    unsettled_why : (fault : SessionFault) (message after : List ℕ) → Unsettled frames taken_first fault → frames.bytes ++ (of.served link).waiting ≡ packets first.id message ++ after → IsUnheard message taken_first fault
+    unsettled_why Link message after why same = absurd why
+    unsettled_why (Refused form refusal) message after why same = absurd why
+    unsettled_why (Garbled place) message after why same = in_order first.id why.found why.wanted message after frames.bytes (of.served link).waiting same (wrong_is (BadSequence why.found why.wanted) why.wrong)
+    unsettled_why (NotProtocol10 version) message after why same = absurd why
+    unsettled_why (PluginUnsupported name) message after why same = absurd why
+    unsettled_why (TooLong size) message after why same = longer first.id size message after frames.bytes (of.served link).waiting same (wrong_is (FrameTooLong size) why)
+    unsettled_why StreamTooLong message after why same = absurd why
+    unsettled_why OutOfMemory message after why same = absurd why
+
     pub gathered_none : (fault : SessionFault) (id : ℕ) → Unsettled frames taken_first fault → HearsNone of (link_at start taken_first first.id) (link_at link taken id) fault
-    gathered_none fault id why = record { kind = unsettled_kind fault why; misheard = gathered_wrong fault id why }
+    gathered_none fault id why = record {
+      kind = unsettled_kind fault why;
+      served = λ serving. record {
+        state = (gathers.gives serving).state;
+        unheard = λ message after waits. unsettled_why fault message after why (sym (gathers.gives serving).waits ∙ waits);
+      };
+      misheard = gathered_wrong fault id why;
+    }
 
     unfetched_kind : (fault : SessionFault) → Unfetched taken fault → IsOfChannel fault
     unfetched_kind Link why = tt
@@ -267,6 +289,26 @@ module _ {L : Type 0} (of : Ghosts L) where
     unfetched_kind StreamTooLong why = tt
     unfetched_kind OutOfMemory why = tt
 
-    pub fetched_none : (fault : SessionFault) (wants id taken_now : ℕ) (next : L) → 0 < wants → Wants frames.limit frames.id frames.bytes wants → (of.tells link → (of.told next).sent ≡ (of.told link).sent) → Unfetched taken fault
+    unfetched_why : (fault : SessionFault) (wants : ℕ) (message after : List ℕ) → IsPart frames.limit frames.id wants frames.bytes → Unfetched taken fault → frames.bytes ++ (of.served link).waiting ≡ packets first.id message ++ after → IsUnheard message taken_first fault
+    unfetched_why Link wants message after part why same = tt
+    unfetched_why (Refused form refusal) wants message after part why same = absurd why
+    unfetched_why (Garbled place) wants message after part why same = absurd why
+    unfetched_why (NotProtocol10 version) wants message after part why same = absurd why
+    unfetched_why (PluginUnsupported name) wants message after part why same = absurd why
+    unfetched_why (TooLong size) wants message after part why same = absurd why
+    unfetched_why StreamTooLong wants message after part why same =
+        let all = gathers.taken in
+        let less = unended frames.limit first.id wants message after frames.bytes (of.served link).waiting same (subst (λ (n : ℕ). IsPart frames.limit n wants frames.bytes) gathers.id part) in
+        omega arith
+    unfetched_why OutOfMemory wants message after part why same = tt
+
+    pub fetched_none : (fault : SessionFault) (wants id taken_now : ℕ) (next : L) → 0 < wants → Wants frames.limit frames.id frames.bytes wants → SaysNothing of link next → Unfetched taken fault
         → HearsNone of (link_at start taken_first first.id) (link_at next taken_now id) fault
-    fetched_none fault wants id taken_now next some wanted sent why = record { kind = unfetched_kind fault why; misheard = gathered_part fault wants id taken_now next some wanted sent why }
+    fetched_none fault wants id taken_now next some wanted says why = record {
+      kind = unfetched_kind fault why;
+      served = λ serving. record {
+        state = says.state (gathers.stays.honest.0 serving.honest) ∙ (gathers.gives serving).state;
+        unheard = λ message after waits. unfetched_why fault wants message after (wanted.part some) why (sym (gathers.gives serving).waits ∙ waits);
+      };
+      misheard = gathered_part fault wants id taken_now next some wanted says.sent why;
+    }

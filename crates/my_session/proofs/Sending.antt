@@ -1,8 +1,8 @@
 -- What sending does to what is still to be heard.
-use Rattle.std.proofs.Common.{◌≡◌, ◌<◌, ◌≤◌, ◌+◌, ◌%◌, List, [], ◌∷◌, ◌++◌, ℕ, false, length, arith, refl, sym, ◌∙◌, ap, subst, append_assoc, Result, Ok, Err, OnOk, IfErr}
+use Rattle.std.proofs.Common.{◌≡◌, ◌<◌, ◌≤◌, ◌+◌, ◌%◌, List, [], ◌∷◌, ◌++◌, ℕ, false, length, arith, refl, sym, ◌∙◌, ap, subst, append_assoc, Option, Result, Ok, Err, OnOk, IfErr}
 use Rattle.honest_server.specs.Link.{IsExchanged, IsNoCreate, MaySend}
 use Rattle.honest_server.specs.Exchange.{BeginsAt, IsLoggingIn, IsWholeMessage}
-use Rattle.honest_server.specs.Moves.{plainly}
+use Rattle.honest_server.specs.Moves.{Way}
 use Rattle.honest_server.specs.State.{State, Phase, greeted, switching, in_session, over}
 use Rattle.my_packets.proofs.Packets.{short_packets}
 use Rattle.wire_forms.specs.Packet.{packet, packets, packet_count, id_after}
@@ -10,11 +10,12 @@ use Rattle.link_traits.specs.Link.{Told, stream, concatenation, first, others, t
 use Rattle.link_traits.specs.declared.link.Link.{Ghosts}
 use Rattle.my_session.proofs.Links.{replied}
 use Rattle.my_session.proofs.Payloads.{no_create}
-use Rattle.my_session.specs.Channel.{ChannelView, IsOfLink, IsUnsent, SendsNone, SendsPackets, Says, SaysNone}
+use Rattle.my_session.specs.Channel.{ChannelView, IsOfLink, MaySayPayload, MaySendPackets, Outgoing, outgoing, SendsNone, SendsPackets, Says, SaysNone}
 use Rattle.my_session.specs.Wire.{Wire}
-use Rattle.my_session.specs.Serving.{MakesNoObject, MaySay, Replied}
+use Rattle.my_session.specs.Served.{IsSeenBy, LeavesUnsaid}
+use Rattle.my_session.specs.Serving.{MakesNoObject, MaySay, Replied, way_of}
 use Rattle.my_session.specs.declared.fault.SessionFault.{SessionFault}
-use Rattle.my_session.specs.declared.fault.SessionFault.TheVariants.{Link, Refused, Garbled, NotProtocol10, PluginUnsupported, TooLong, StreamTooLong, OutOfMemory}
+use Rattle.my_session.specs.declared.fault.SessionFault.TheVariants.{Link, OutOfMemory}
 
 all_joined : (lists : List (List ℕ)) → first lists ++ concatenation (others lists) ≡ concatenation lists
 all_joined [] = refl
@@ -89,47 +90,55 @@ same_wire sent sent_now stream stream_now place place_now id id_now sent_is stre
     ap (λ (s : List (List ℕ)). wire_by s stream place id) sent_is ∙ ap (λ (l : List ℕ). wire_by sent_now l place id) stream_is ∙ ap (λ (n : ℕ). wire_by sent_now stream_now n id) place_is ∙ ap (λ (n : ℕ). wire_by sent_now stream_now place_now n) id_is
 
 -- what is answered to the packets of a payload is answered to it
-module _ {L : Type 0} (of : Ghosts L) (old new : L) (id next : ℕ) (payload bytes : List ℕ) where
-  pub said : bytes ≡ packets id payload → next ≡ id_after (packet_count (length payload)) id → (of.honest old → (of.served old).failed ≡ false) → (of.honest old → IsExchanged plainly (of.served old) bytes (of.served new)) → of.honest old → Replied of payload old new next
-  said bytes_are next_is alive told_after_send h =
-      subst (λ (n : ℕ). Replied of payload old new n) (sym next_is)
-      (replied of old new id payload (subst (λ (l : List ℕ). IsExchanged plainly (of.served old) l (of.served new)) bytes_are (told_after_send h)) (alive h))
+module _ {L : Type 0} (of : Ghosts L) (way : Way) (old new : L) (id next : ℕ) (payload bytes : List ℕ) where
+  pub said : bytes ≡ packets id payload → next ≡ id_after (packet_count (length payload)) id → (of.honest old → (of.served old).failed ≡ false) → (of.honest old → IsSeenBy way (of.served old).state) → (of.honest old → IsExchanged way (of.served old) bytes (of.served new)) → of.honest old → Replied of way payload old new next
+  said bytes_are next_is alive before answered h =
+      subst (λ (n : ℕ). Replied of way payload old new n) (sym next_is)
+      (replied of old new way id payload (subst (λ (l : List ℕ). IsExchanged way (of.served old) l (of.served new)) bytes_are (answered h)) (alive h) (before h))
 
-module _ {L : Type 0} (of : Ghosts L) (old new : ChannelView L) (id next : ℕ) (payload bytes : List ℕ) where
+module _ {L : Type 0} (of : Ghosts L) (holder : Option L) (old new : ChannelView L) (id next : ℕ) (payload bytes : List ℕ) where
   -- packets that were sent say their payload
-  pub says : length payload ≤ 67108864 → bytes ≡ packets id payload → new.place ≡ old.place → new.id ≡ id_after (packet_count (length payload)) id → SendsPackets of bytes old.link new.link → Says of id payload old new
+  pub says : length payload ≤ 67108864 → bytes ≡ packets id payload → new.place ≡ old.place → new.id ≡ id_after (packet_count (length payload)) id → SendsPackets of (outgoing bytes holder) old.link new.link → Says of id (outgoing payload holder) old new
   says short bytes_are place_is id_is sends = record {
-    replied = said of old.link new.link id new.id payload bytes bytes_are id_is sends.alive sends.answered;
+    place = place_is;
+    replied = said of (way_of of holder) old.link new.link id new.id payload bytes bytes_are id_is sends.alive sends.before sends.answered;
     sent = λ t. record {
       short = short;
       new_is = same_wire _ _ _ _ _ _ _ _ (sends.sent t ∙ ap (λ (l : List ℕ). (of.told old.link).sent ++ l ∷ []) bytes_are) (sends.stream t) place_is id_is;
     };
   }
 
-  pub short_says : (result : Result (Unit {0}) SessionFault) → id < 256 → length payload ≤ 1001 → bytes ≡ packet id payload → next ≡ (id + 1) % 256 → new.place ≡ old.place → OnOk result (new.id ≡ next) → OnOk result (SendsPackets of bytes old.link new.link) → OnOk result (Says of id payload old new)
+  pub short_says : (result : Result (Unit {0}) SessionFault) → id < 256 → length payload ≤ 1001 → bytes ≡ packet id payload → next ≡ (id + 1) % 256 → new.place ≡ old.place → OnOk result (new.id ≡ next) → OnOk result (SendsPackets of (outgoing bytes holder) old.link new.link) → OnOk result (Says of id (outgoing payload holder) old new)
   short_says (Ok sent) byte short is next_is place_is id_is sends = says (omega arith) (is ∙ sym (short_is_sent id payload byte short)) place_is (id_is ∙ next_is ∙ (omega arith)) sends
   short_says (Err fault) byte short is next_is place_is id_is sends = tt
 
-module _ {L : Type 0} (of : Ghosts L) (old new : ChannelView L) (payload : List ℕ) where
-  -- what wasn't sent wasn't said
-  none_said : (fault : SessionFault) → SendsNone of IsUnsent old.link new.link fault → SaysNone of payload old new fault
-  none_said Link none = record { kind = tt; unsaid = none.silent }
-  none_said (Refused form refusal) none = absurd none.kind
-  none_said (Garbled place) none = absurd none.kind
-  none_said (NotProtocol10 version) none = absurd none.kind
-  none_said (PluginUnsupported name) none = absurd none.kind
-  none_said (TooLong size) none = absurd none.kind
-  none_said StreamTooLong none = absurd none.kind
-  none_said OutOfMemory none = record { kind = tt; unsaid = none.silent }
+-- a payload that wasn't sent whole wasn't said
+module _ {L : Type 0} (of : Ghosts L) (holder : Option L) (old new : ChannelView L) (id : ℕ) (payload bytes : List ℕ) (bytes_are : bytes ≡ packets id payload) where
+  none_said : (fault : SessionFault) → SendsNone of IsOfLink (outgoing bytes holder) old.link new.link fault → SaysNone of id (outgoing payload holder) old new fault
+  none_said fault none =
+      subst (λ (f : SessionFault). SaysNone of id (outgoing payload holder) old new f) (sym none.kind) record {
+        kind = tt;
+        long = tt;
+        unsaid = none.silent;
+        left = λ h. subst (λ (l : List ℕ). LeavesUnsaid (way_of of holder) l (of.served old.link) Link (of.served new.link)) bytes_are (subst (λ (f : SessionFault). LeavesUnsaid (way_of of holder) bytes (of.served old.link) f (of.served new.link)) none.kind (none.left h));
+      }
 
-  pub long_says_none : (result : Result (Unit {0}) SessionFault) → IfErr result (SendsNone of IsUnsent old.link new.link) → IfErr result (SaysNone of payload old new)
-  long_says_none (Ok done) none = tt
-  long_says_none (Err fault) none = none_said fault none
+  pub says_none : (result : Result (Unit {0}) SessionFault) → IfErr result (SendsNone of IsOfLink (outgoing bytes holder) old.link new.link) → IfErr result (SaysNone of id (outgoing payload holder) old new)
+  says_none (Ok finished) none = tt
+  says_none (Err fault) none = none_said fault none
 
-  pub short_says_none : (result : Result (Unit {0}) SessionFault) → IfErr result (SendsNone of IsOfLink old.link new.link) → IfErr result (SaysNone of payload old new)
-  short_says_none (Ok done) none = tt
-  short_says_none (Err fault) none = subst (λ (f : SessionFault). SaysNone of payload old new f) (sym none.kind) (none_said Link (record { kind = tt; silent = none.silent }))
+  pub says_none_at : (fault : SessionFault) → SendsNone of IsOfLink (outgoing bytes holder) old.link new.link fault → SaysNone of id (outgoing payload holder) old new fault
+  says_none_at fault none = none_said fault none
 
-  pub short_takes_none : (result : Result (Unit {0}) SessionFault) → IfErr result (SendsNone of IsOfLink old.link new.link) → result ≡ Err OutOfMemory → ⊥
-  short_takes_none (Ok done) none is = absurd (cc)
-  short_takes_none (Err fault) none is = let kind : fault ≡ Link = none.kind in absurd (cc)
+module _ {L : Type 0} (of : Ghosts L) (out : Outgoing L) (old new : L) where
+  pub takes_none : (result : Result (Unit {0}) SessionFault) → IfErr result (SendsNone of IsOfLink out old new) → result ≡ Err OutOfMemory → ⊥
+  takes_none (Ok finished) none is = absurd (cc)
+  takes_none (Err fault) none is = let kind : fault ≡ Link = none.kind in absurd (cc)
+
+-- packets of a payload that may be said may be sent
+module _ {L : Type 0} (of : Ghosts L) (holder : Option L) (link : L) (id : ℕ) (payload bytes : List ℕ) where
+  pub may_send_payload : bytes ≡ packets id payload → MaySayPayload of id (outgoing payload holder) link → MaySendPackets of (outgoing bytes holder) link
+  may_send_payload is may = record {
+    may = λ h. may_send (of.served link).state id payload bytes is (may.may h);
+    beside = may.beside;
+  }

@@ -17,11 +17,13 @@ use Rattle.my_packets.specs.declared.skim.Stage.TheVariants.{Header, Packet, Who
 use Rattle.my_session.proofs.Links.{taken_off, recv_gives}
 use Rattle.my_session.proofs.Payloads.{part_is_not_all}
 use Rattle.my_session.proofs.Staying.{stays_begin, stays_on}
+use Rattle.my_session.proofs.Unheard.{in_order, longer, unended}
 use Rattle.my_session.proofs.Within.{wrong_within, full_within}
-use Rattle.my_session.specs.Channel.{link_at, wire_at, packets_within, HearsNone, IsOfChannel, SkimsTo, HearsFront as Skimming}
+use Rattle.my_session.specs.Channel.{wire_at, packets_within, HearsNone, IsOfChannel, SkimsTo, HearsFront as Skimming}
+use Rattle.my_session.specs.Session.{link_at}
 use Rattle.my_session.specs.Halt.{Misheard}
-use Rattle.my_session.specs.Receiving.{SkimsPiece, Spoils, Drains, Unskimmed, skimmer_at}
-use Rattle.my_session.specs.Serving.{IsServing, MessageWaits, Stays, Gives, DeliversFront}
+use Rattle.my_session.specs.Receiving.{SaysNothing, SkimsPiece, Spoils, Drains, Unskimmed, skimmer_at}
+use Rattle.my_session.specs.Serving.{IsServing, IsUnheard, MessageWaits, Stays, Gives, DeliversFront}
 use Rattle.my_session.specs.Wire.{within}
 use Rattle.my_session.specs.declared.fault.SessionFault.{SessionFault}
 use Rattle.my_session.specs.declared.fault.SessionFault.TheVariants.{Link, Refused, Garbled, NotProtocol10, PluginUnsupported, TooLong, StreamTooLong, OutOfMemory}
@@ -55,9 +57,9 @@ module _ {L : Type 0} (of : Ghosts L) where
         gives = λ h. subst (λ (l : List ℕ). Gives of l old new) (sym is) (recv_gives of old new E buffer count served h);
       }
 
-  pub spoils_piece : (old new : L) (E : Type 0) (before now : Skimmed) (fault : FrameFault) (taken count : ℕ) (buffer rest : List ℕ) → (of.tells old → ReceivesAsTold {E = E} (of.told old) buffer (Ok count) (of.told new)) → Feeds before (take count (buffer ++ rest)) (Err fault) now → count ≤ length buffer → taken + count ≤ 2 ^ 62
+  pub spoils_piece : (old new : L) (E : Type 0) (before now : Skimmed) (fault : FrameFault) (taken count : ℕ) (buffer rest : List ℕ) → (of.tells old → ReceivesAsTold {E = E} (of.told old) buffer (Ok count) (of.told new)) → (of.honest old → TakesServed {E = E} (of.served old) buffer (Ok count) (of.served new)) → Feeds before (take count (buffer ++ rest)) (Err fault) now → count ≤ length buffer → taken + count ≤ 2 ^ 62
       → Spoils of (skimmer_at old before taken) new fault
-  spoils_piece old new E before now fault taken count buffer rest received feeds fits inside =
+  spoils_piece old new E before now fault taken count buffer rest received served feeds fits inside =
       let is : take count (buffer ++ rest) ≡ take count buffer = take-append-le count buffer rest fits in
       let size : length (take count buffer) ≡ count = length-take-le count buffer fits in
       let same : length (take count (buffer ++ rest)) ≡ length (take count buffer) = ap (λ (l : List ℕ). length l) is in
@@ -66,6 +68,7 @@ module _ {L : Type 0} (of : Ghosts L) where
         within = omega arith;
         wrong = feeds.wrong;
         stream = λ t. taken_off of old new E count buffer received t ∙ ap (λ (l : List ℕ). l ++ stream (of.told new)) (sym is);
+        gives = λ h. subst (λ (l : List ℕ). Gives of l old new) (sym is) (recv_gives of old new E buffer count served h);
       }
 
   pub drains_none : ((one : L) → of.same_origin one one) → (link : L) (seq taken : ℕ) (skim : Skimmed) → Skims seq 67108864 [] skim → fault_of skim ≡ None → Drains of (link_at link taken seq) (skimmer_at link skim taken)
@@ -212,6 +215,33 @@ module _ {L : Type 0} (of : Ghosts L) where
       unskimmed_kind next StreamTooLong why = tt
       unskimmed_kind next OutOfMemory why = absurd why
 
-      pub drained_none : (next : L) (fault : SessionFault) (wants taken_now id : ℕ) → 0 < wants → Wants 67108864 seq drains.fed wants → (of.tells link → (of.told next).sent ≡ (of.told link).sent) → Unskimmed of (skimmer_at link skim taken) next taken_first fault
+      -- what the skim was fed and then a piece is the front of what waited
+      spoilt_front : (next : L) (fault : FrameFault) (spoils : Spoils of (skimmer_at link skim taken) next fault) (message after : List ℕ) → IsServing of start → (of.served start).waiting ≡ packets seq message ++ after → (drains.fed ++ spoils.piece) ++ (of.served next).waiting ≡ packets seq message ++ after
+      spoilt_front next fault spoils message after serving waits =
+          append_assoc drains.fed spoils.piece (of.served next).waiting ∙ ap (λ (l : List ℕ). drains.fed ++ l) (sym (spoils.gives (drains.stays.honest.0 serving.honest)).waits) ∙ sym (drains.gives serving).waits ∙ waits
+
+      unskimmed_why : (next : L) (fault : SessionFault) (wants : ℕ) (message after : List ℕ) → IsServing of start → IsPart 67108864 seq wants drains.fed → Unskimmed of (skimmer_at link skim taken) next taken_first fault → (of.served start).waiting ≡ packets seq message ++ after → IsUnheard message taken_first fault
+      unskimmed_why next Link wants message after serving part why waits = tt
+      unskimmed_why next (Refused form refusal) wants message after serving part why waits = absurd why
+      unskimmed_why next (Garbled place) wants message after serving part why waits =
+          in_order seq why.found why.wanted message after (drains.fed ++ why.spoils.piece) (of.served next).waiting (spoilt_front next (BadSequence why.found why.wanted) why.spoils message after serving waits) (why.spoils.wrong seq 67108864 drains.fed drains.skims)
+      unskimmed_why next (NotProtocol10 version) wants message after serving part why waits = absurd why
+      unskimmed_why next (PluginUnsupported name) wants message after serving part why waits = absurd why
+      unskimmed_why next (TooLong size) wants message after serving part why waits =
+          longer seq size message after (drains.fed ++ why.piece) (of.served next).waiting (spoilt_front next (FrameTooLong size) why message after serving waits) (why.wrong seq 67108864 drains.fed drains.skims)
+      unskimmed_why next StreamTooLong wants message after serving part why waits =
+          let all = drains.taken in
+          let less = unended 67108864 seq wants message after drains.fed (of.served link).waiting (sym (drains.gives serving).waits ∙ waits) part in
+          omega arith
+      unskimmed_why next OutOfMemory wants message after serving part why waits = absurd why
+
+      pub drained_none : (next : L) (fault : SessionFault) (wants taken_now id : ℕ) → 0 < wants → Wants 67108864 seq drains.fed wants → SaysNothing of link next → Unskimmed of (skimmer_at link skim taken) next taken_first fault
           → HearsNone of (link_at start taken_first seq) (link_at next taken_now id) fault
-      drained_none next fault wants taken_now id some wanted sent why = record { kind = unskimmed_kind next fault why; misheard = drained_not next fault wants taken_now id some wanted sent why }
+      drained_none next fault wants taken_now id some wanted says why = record {
+        kind = unskimmed_kind next fault why;
+        served = λ serving. record {
+          state = says.state (drains.stays.honest.0 serving.honest) ∙ (drains.gives serving).state;
+          unheard = λ message after waits. unskimmed_why next fault wants message after serving (wanted.part some) why waits;
+        };
+        misheard = drained_not next fault wants taken_now id some wanted says.sent why;
+      }

@@ -13,6 +13,7 @@ module _ {L : Type 0} (of : Ghosts L) where
     origin = begins link;
     terms = λ h. refl;
     back = λ h alive. alive;
+    wide = λ h tells. tells;
   }
 
   pub stays_on : ((one next last : L) → of.same_origin one next → of.same_origin next last → of.same_origin one last) → (one next last : L) → Stays of one next → Stays of next last → Stays of one last
@@ -21,6 +22,7 @@ module _ {L : Type 0} (of : Ghosts L) where
     origin = joins one next last first.origin later.origin;
     terms = λ h. later.terms (first.honest.0 h) ∙ first.terms h;
     back = λ h alive. first.back h (later.back (first.honest.0 h) alive);
+    wide = λ h tells. first.wide h (later.wide (first.honest.0 h) tells);
   }
 
   pub keeps_ok : {A : Type 0} (answer : A) (old new : L) → Stays of old new → (of.tells old ↔ of.tells new) → of.faults old ≤ of.faults new → KeepsLink of old new (Ok answer)

@@ -1,19 +1,16 @@
 -- How what waits on an honest link goes on from one step of a session to the next.
-use Rattle.std.proofs.Common.{◌≡◌, ◌<◌, ℕ, Bool, true, false, List, [], ◌∷◌, ◌++◌, length, refl, sym, ◌∙◌, ap, subst, arith, Option, Some, Result, Ok, Err, OnOk}
-use Rattle.std.specs.Prelude.{IfOk, IfErr, MatchResult}
+use Rattle.std.proofs.Common.{◌≡◌, ◌<◌, ℕ, Bool, true, false, List, [], ◌∷◌, ◌++◌, length, refl, sym, ◌∙◌, ap, subst, arith, inl, inr, Option, Some, None, Result, Ok, Err}
 use Rattle.std.proofs.lemmas.Bool.{false≢true}
 use Rattle.std.proofs.lemmas.List.{append-nil}
-use Rattle.honest_server.specs.Exchange.{IsGreeting, packets_from, query_payload, IsLoggingIn}
-use Rattle.honest_server.specs.Moves.{plainly}
+use Rattle.honest_server.specs.Exchange.{IsGreeting, packets_from, query_payload}
+use Rattle.honest_server.specs.Moves.{Way}
 use Rattle.honest_server.specs.Site.{ServedSite, IsNewLink}
-use Rattle.honest_server.specs.State.{Server, State, Terms, Phase, greeted, switching, in_session}
+use Rattle.honest_server.specs.State.{Server, State, Terms, Phase, greeted, in_session}
 use Rattle.link_traits.specs.declared.link.Link.{Ghosts}
-use Rattle.wire_forms.specs.Switch.{switch_of}
 use Rattle.wire_forms.specs.Greeting.{greeting_of}
 use Rattle.wire_forms.specs.declared.ends.Ends.{Ends}
 use Rattle.wire_forms.specs.declared.greeting.Greeting.{Greeting}
 use Rattle.wire_forms.specs.declared.login_fault.LoginFault.{LoginFault}
-use Rattle.wire_forms.specs.declared.switch.Switch.{Switch}
 use Rattle.my_packets.proofs.Fronts.{same_packets}
 use Rattle.wire_forms.specs.Packet.{packets, packet_count, id_after}
 use Rattle.wire_forms.specs.Reading.{Reading, Further, definition, row, end, refused, garbled, idle, columns_counted, further_of, reading_after}
@@ -23,19 +20,17 @@ use Rattle.wire_forms.specs.declared.refusal.Refusal.{Refusal}
 use Rattle.wire_forms.specs.declared.reply.Reply.{Reply}
 use Rattle.wire_forms.specs.declared.reply.Reply.TheVariants.{Done, Refused as IsRefused, Columns}
 use Rattle.statement_forms.specs.declared.form.Form.{Form}
-use Rattle.my_session.proofs.Decisions.{login_answer}
 use Rattle.my_session.proofs.Rests.{session_reply}
-use Rattle.my_session.specs.Awaited.{further_fault}
-use Rattle.my_session.specs.Heard.{IsDecision, Judges}
-use Rattle.my_session.specs.InStep.{Completes, ends, breaks_off, defines, has_row, Follows, WaitsRest, phase_after, IsQuiet, DecisionWaits, ReplyWaits, IsOpen, GreetingWaits}
+use Rattle.my_session.specs.Awaited.{done_fault, further_fault}
+use Rattle.my_session.specs.Channel.{ChannelView}
+use Rattle.my_session.specs.Heard.{Judges}
+use Rattle.my_session.specs.InStep.{Completes, ends, breaks_off, defines, has_row, Follows, WaitsRest, IsQuiet, ReplyWaits, IsOpen, GreetingWaits, ServesDone}
 use Rattle.my_session.specs.Peer.{IsPeerOf, peer_of}
-use Rattle.my_session.specs.Serving.{IsServing, Stays, MessageWaits, Delivers, DeliversReply, DeliversRefusal, Replied}
+use Rattle.my_session.specs.Serving.{IsServing, Stays, MessageWaits, Delivers, DeliversReply, IsUnheard, Replied}
 use Rattle.my_session.specs.Session.{failed_by, ends_session}
 use Rattle.my_session.specs.declared.fault.SessionFault.{SessionFault}
-use Rattle.my_session.specs.declared.fault.SessionFault.TheVariants.{Garbled}
+use Rattle.my_session.specs.declared.fault.SessionFault.TheVariants.{Link, Refused, Garbled, NotProtocol10, PluginUnsupported, TooLong, StreamTooLong, OutOfMemory}
 use Rattle.my_session.specs.declared.peer.Peer.{Peer}
-use Rattle.my_session.specs.declared.login.Decision.{Decision}
-use Rattle.my_session.specs.declared.login.Decision.TheVariants.{Accepted, Switched}
 
 -- messages of which there is a first
 first_waits : (id : ℕ) (waiting first : List ℕ) (others messages : List (List ℕ)) → messages ≡ first ∷ others → waiting ≡ packets_from id messages → MessageWaits id waiting
@@ -78,6 +73,24 @@ refused_by form place end fault is goes_on = absurd (cc)
 refused_by form place (refused refusal) fault is goes_on = (refusal, refl)
 refused_by form place garbled fault is goes_on = let same : Garbled place ≡ fault = cc in absurd (false≢true (sym goes_on ∙ ap (λ (f : SessionFault). ends_session f) (sym same)))
 
+-- so is one at a reply's first message
+refused_first : (form : Form) (place : ℕ) (reply : Option Reply) (fault : SessionFault) → done_fault form place reply ≡ Some fault → ends_session fault ≡ false → (refusal : Refusal) × (reply ≡ Some (IsRefused refusal))
+refused_first form place None fault is goes_on = let same : Garbled place ≡ fault = cc in absurd (false≢true (sym goes_on ∙ ap (λ (f : SessionFault). ends_session f) (sym same)))
+refused_first form place (Some Done) fault is goes_on = absurd (cc)
+refused_first form place (Some (IsRefused refusal)) fault is goes_on = (refusal, refl)
+refused_first form place (Some (Columns columns)) fault is goes_on = let same : Garbled place ≡ fault = cc in absurd (false≢true (sym goes_on ∙ ap (λ (f : SessionFault). ends_session f) (sym same)))
+
+-- where a message that waits isn't heard, the session ends
+unheard_ends : (message : List ℕ) (place : ℕ) (fault : SessionFault) → IsUnheard message place fault → ends_session fault ≡ false → ⊥
+unheard_ends message place Link unheard goes_on = false≢true (sym goes_on)
+unheard_ends message place (Refused form refusal) unheard goes_on = absurd unheard
+unheard_ends message place (Garbled at) unheard goes_on = absurd unheard
+unheard_ends message place (NotProtocol10 version) unheard goes_on = absurd unheard
+unheard_ends message place (PluginUnsupported name) unheard goes_on = absurd unheard
+unheard_ends message place (TooLong size) unheard goes_on = false≢true (sym goes_on)
+unheard_ends message place StreamTooLong unheard goes_on = false≢true (sym goes_on)
+unheard_ends message place OutOfMemory unheard goes_on = false≢true (sym goes_on)
+
 module _ {L : Type 0} (of : Ghosts L) where
   pub reply_comes : (link : L) (id : ℕ) → ReplyWaits of link id → MessageWaits id (of.served link).waiting
   reply_comes link id reply = first_waits id (of.served link).waiting reply.is_reply.first reply.is_reply.others reply.messages reply.is_reply.messages_are reply.waits
@@ -87,9 +100,6 @@ module _ {L : Type 0} (of : Ghosts L) where
       let rest = is_open.rest some in
       let there = completes_begins reading rest.messages rest.completes in
       first_waits id (of.served link).waiting there.first there.others rest.messages there.messages_are rest.waits
-
-  pub decision_comes : (link : L) (id : ℕ) → DecisionWaits of link id → MessageWaits id (of.served link).waiting
-  decision_comes link id decision = first_waits id (of.served link).waiting decision.message [] (decision.message ∷ []) refl decision.waits
 
   -- where nothing is pending, nothing waits
   pub open_idle : (link : L) (id : ℕ) (ending : Ends) → IsQuiet of in_session link → IsOpen of link id (idle ending)
@@ -128,27 +138,15 @@ module _ {L : Type 0} (of : Ghosts L) where
 
   module _ (old new : L) (id : ℕ) where
     -- a text is answered by a reply
-    pub said_text : (text payload : List ℕ) → payload ≡ query_payload text → IsQuiet of in_session old → Replied of payload old new id → ReplyWaits of new id
-    said_text text payload is quiet replied =
-        let told = session_reply plainly (of.served old).state text payload replied.messages (of.served new).state quiet.phase_is is replied.replies in
+    pub said_text : (way : Way) (text payload : List ℕ) → payload ≡ query_payload text → IsQuiet of in_session old → Replied of way payload old new id → ReplyWaits of new id
+    said_text way text payload is quiet replied =
+        let told = session_reply way (of.served old).state text payload replied.messages (of.served new).state quiet.phase_is is replied.replies in
         record {
           alive = replied.alive;
           phase = told.phase;
           messages = replied.messages;
           is_reply = told.is_reply;
           waits = replied.waits ∙ ap (λ (l : List ℕ). l ++ packets_from id replied.messages) quiet.none;
-        }
-
-    -- a login is answered by one message
-    pub said_login : (phase : Phase) (payload : List ℕ) → IsLoggingIn phase → IsQuiet of phase old → Replied of payload old new id → DecisionWaits of new id
-    said_login phase payload logging quiet replied =
-        let told = login_answer plainly (of.served old).state payload replied.messages (of.served new).state (subst (λ (p : Phase). IsLoggingIn p) (sym quiet.phase_is) logging) replied.replies in
-        record {
-          alive = replied.alive;
-          message = told.message;
-          accepted = told.taken;
-          switched = told.asked;
-          waits = replied.waits ∙ ap (λ (l : List ℕ). l ++ packets_from id replied.messages) quiet.none ∙ ap (λ (l : List (List ℕ)). packets_from id l) told.messages_are;
         }
 
   -- the message that is heard is the first of those that wait, and the others wait after it
@@ -220,25 +218,6 @@ module _ {L : Type 0} (of : Ghosts L) where
       pub heard_break : (next : Reading) (ending : Ends) (refusal : Refusal) → next ≡ idle ending → further_of reading message ≡ refused refusal → IsOpen of new now next
       heard_break next ending refusal is_idle is = subst (λ (r : Reading). IsOpen of new now r) (sym is_idle) (at_end ending (rest (refused refusal) is))
 
-    -- after the answer to a login
-    module _ (waits : DecisionWaits of old id) where
-      decided : IsNext waits.message []
-      decided = next_is waits.message [] (waits.message ∷ []) refl waits.waits
-
-      pub heard_accepted : reply_of message ≡ Some Done → IsQuiet of in_session new
-      heard_accepted is = record {
-        alive = delivers.gives.alive;
-        phase_is = still in_session (waits.accepted (ap (λ (l : List ℕ). reply_of l) (sym decided.message_is) ∙ is));
-        none = decided.waits;
-      }
-
-      pub heard_switch : (found : Switch) → switch_of message ≡ Ok found → IsQuiet of switching new
-      heard_switch found is = record {
-        alive = delivers.gives.alive;
-        phase_is = still switching (waits.switched found (ap (λ (l : List ℕ). switch_of l) (sym decided.message_is) ∙ is));
-        none = decided.waits;
-      }
-
     -- after the greeting
     pub heard_greeting : id ≡ 0 → GreetingWaits of old → IsQuiet of greeted new
     heard_greeting first_id waits =
@@ -246,14 +225,19 @@ module _ {L : Type 0} (of : Ghosts L) where
         record { alive = delivers.gives.alive; phase_is = still greeted waits.phase; none = only.waits }
 
   -- what a command leaves
-  module _ (old new : L) (id now : ℕ) (serving : IsServing of old) (waits : ReplyWaits of old id) where
-    pub answered : (result : Result (Unit {0}) SessionFault) → OnOk result (IsServing of old → DeliversReply of (Some Done) old id new now) → IfErr result (λ fault. ends_session fault ≡ false → IsServing of old → DeliversRefusal of old id new now) → failed_by result ≡ false → IsQuiet of in_session new
-    answered (Ok finished) says refuses goes_on =
-        let reply = says serving in
-        heard_done old new id now reply.message reply.delivers (Some Done) reply.reply_is waits refl
-    answered (Err fault) says refuses goes_on =
-        let refusal = refuses goes_on serving in
-        heard_refusal old new id now refusal.delivers.message refusal.delivers.delivers (Some (IsRefused refusal.refusal)) refusal.delivers.reply_is waits refusal.refusal refl
+  module _ (old new : ChannelView L) (serving : IsServing of old.link) (waits : ReplyWaits of old.link old.id) where
+    pub answered : (form : Form) (result : Result (Unit {0}) SessionFault) → ServesDone of form old result new → failed_by result ≡ false → IsQuiet of in_session new.link
+    answered form (Ok finished) serves goes_on =
+        let reply = serves serving in
+        heard_done old.link new.link old.id new.id reply.message reply.delivers (Some Done) reply.reply_is waits refl
+    answered form (Err fault) serves goes_on = elim (serves serving) [
+      | inl answers ↦
+          let refusal = refused_first form old.place answers.reply fault answers.fault_is goes_on in
+          heard_refusal old.link new.link old.id new.id answers.delivers.message answers.delivers.delivers answers.reply answers.delivers.reply_is waits refusal.0 refusal.1
+      | inr nothing ↦
+          let comes = reply_comes old.link old.id waits in
+          absurd (unheard_ends comes.message old.place fault (nothing.unheard comes.message comes.after comes.waits) goes_on)
+    ]
 
   -- what hearing the number of columns leaves
   module _ (old new : L) (id now : ℕ) (stays : Stays of old new) (waits : of.honest old → ReplyWaits of old id) (reply : Option Reply) (heard : IsServing of old → DeliversReply of reply old id new now) where
@@ -320,21 +304,3 @@ module _ {L : Type 0} (of : Ghosts L) where
     greeting_tells payload found first_id waits alive heard is read h =
         let serving : IsServing of old = record { honest = h; alive = alive h } in
         greeting_says found (heard serving) first_id (waits serving) (ap (λ (l : List ℕ). greeting_of l) (sym is) ∙ read)
-
-  -- what hearing the answer to a login leaves
-  module _ (old new : L) (id now : ℕ) (stays : Stays of old new) (waits : of.honest old → DecisionWaits of old id) where
-    pub decision_heard : (message payload : List ℕ) (Not : SessionFault → Type 0) (result : Result Decision SessionFault) → (IsServing of old → Delivers of message old id new now) → payload ≡ message → MatchResult result (λ found. IsDecision found payload) Not → IfOk result (λ found. of.honest new → IsQuiet of (phase_after found) new)
-    decision_heard message payload Not (Ok Accepted) hears is judged = λ h.
-        let before = waits (stays.honest.1 h) in
-        heard_accepted old new id now message (hears (record { honest = stays.honest.1 h; alive = before.alive })) before (ap (λ (l : List ℕ). reply_of l) (sym is) ∙ judged)
-    decision_heard message payload Not (Ok (Switched found)) hears is judged = λ h.
-        let before = waits (stays.honest.1 h) in
-        heard_switch old new id now message (hears (record { honest = stays.honest.1 h; alive = before.alive })) before found (ap (λ (l : List ℕ). switch_of l) (sym is) ∙ judged.1)
-    decision_heard message payload Not (Err fault) hears is judged = tt
-
-    pub acceptance_heard : (result : Result (Unit {0}) SessionFault) → OnOk result (IsServing of old → DeliversReply of (Some Done) old id new now) → OnOk result (of.honest new → IsQuiet of in_session new)
-    acceptance_heard (Ok finished) hears = λ h.
-        let before = waits (stays.honest.1 h) in
-        let told = hears (record { honest = stays.honest.1 h; alive = before.alive }) in
-        heard_accepted old new id now told.message told.delivers before told.reply_is
-    acceptance_heard (Err fault) hears = tt

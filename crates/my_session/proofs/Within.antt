@@ -43,7 +43,7 @@ header_after size id bytes more header = record {
   size_is = header.size_is;
 }
 
-wrong_after : (limit id : ℕ) (bytes more : List ℕ) (fault : FrameFault) → IsWrong limit id bytes fault → IsWrong limit id (bytes ++ more) fault
+pub wrong_after : (limit id : ℕ) (bytes more : List ℕ) (fault : FrameFault) → IsWrong limit id bytes fault → IsWrong limit id (bytes ++ more) fault
 wrong_after limit id bytes more (BadSequence found wanted) wrong = record {
   count = wrong.count;
   size = wrong.size;

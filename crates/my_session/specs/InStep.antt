@@ -1,14 +1,12 @@
 -- What waits on the link of an honest server while a session is in step with it.
-use Rattle.std.specs.Prelude.{ℕ, ◌≡◌, ◌<◌, false, List, [], ◌∷◌, Option, Some, None, Ok}
-use Rattle.honest_server.specs.Exchange.{IsGreeting, packets_from}
-use Rattle.honest_server.specs.State.{Phase, greeted, switching, in_session}
+use Rattle.std.specs.Prelude.{ℕ, ◌≡◌, ◌<◌, ◌-◌, ◌⊎◌, ◌++◌, true, false, List, [], ◌∷◌, replicate, Option, Some, None, Result, Ok, Err, IfErr}
+use Rattle.honest_server.specs.Exchange.{AsksFor, IsGreeting, packets_from}
+use Rattle.honest_server.specs.State.{State, Phase, greeted, switching, in_session}
 use Rattle.link_traits.specs.declared.link.Link.{Ghosts}
-use Rattle.wire_forms.specs.Switch.{switch_of}
 use Rattle.wire_forms.specs.declared.ends.Ends.{Ends}
-use Rattle.wire_forms.specs.declared.switch.Switch.{Switch}
 use Rattle.wire_forms.specs.Packet.{packets}
 use Rattle.object_forms.specs.Head.{HasHead}
-use Rattle.wire_forms.specs.Reading.{Reading, definition, row, end, refused, columns_counted, further_of, reading_after}
+use Rattle.wire_forms.specs.Reading.{Reading, Further, definition, row, end, refused, awaited_count, columns_counted, further_of, reading_after}
 use Rattle.wire_forms.specs.Reply.{reply_of}
 use Rattle.plain_data.specs.Cell.{Cell}
 use Rattle.wire_forms.specs.declared.reply.Reply.{Reply}
@@ -16,13 +14,19 @@ use Rattle.wire_forms.specs.declared.reply.Reply.TheVariants.{Done, Refused, Col
 use Rattle.wire_forms.specs.declared.refusal.Refusal.{Refusal}
 use Rattle.statement_forms.specs.Text.{command_text}
 use Rattle.statement_forms.specs.declared.command.Command.{Command}
+use Rattle.statement_forms.specs.declared.form.Form.{Form}
 use Rattle.my_session.specs.Peer.{IsPeerOf}
-use Rattle.my_session.specs.Channel.{ChannelView}
-use Rattle.my_session.specs.Serving.{IsServing, MessageWaits, DeliversReply, DeliversRefusal}
-use Rattle.my_session.specs.Session.{SessionView, IsOfStatement, ends_session, rows_awaited}
-use Rattle.my_session.specs.Wire.{IsOnward}
+use Rattle.my_session.specs.Awaited.{count_fault, done_fault, further_fault}
+use Rattle.my_session.specs.Channel.{ChannelView, HearsNothing, WhereTold, link_of}
+use Rattle.my_session.specs.Heard.{HearsDefinition}
+use Rattle.my_session.specs.Coming.{Reached, TakesTurn, WaitsTurns}
+use Rattle.my_session.specs.Served.{FailsLogin, PassesLimits, RunsServed, TurnsAway, logged_in}
+use Rattle.my_session.specs.Serving.{IsServing, MaySendBy, MessageWaits, DeliversReply, way_of}
+use Rattle.my_session.specs.Session.{LinkAt, SessionView, IsOfStatement, ends_session, rows_awaited}
+use Rattle.my_session.specs.Wire.{Hears, IsOnward}
 use Rattle.statement_forms.specs.Statement.{CommandHasText}
 use Rattle.my_session.specs.declared.fault.SessionFault.{SessionFault}
+use Rattle.my_session.specs.declared.fault.SessionFault.TheVariants.{Link, Refused as IsRefusedBy, Garbled, NotProtocol10, PluginUnsupported, TooLong, StreamTooLong, OutOfMemory}
 use Rattle.my_session.specs.declared.login.Decision.{Decision}
 use Rattle.my_session.specs.declared.login.Decision.TheVariants.{Accepted, Switched}
 
@@ -64,6 +68,30 @@ abbrev pub phase_after : Decision → Phase
 phase_after Accepted = in_session
 phase_after (Switched found) = switching
 
+-- the answer to a login: it is taken, another plugin is asked for once, or it is refused
+pub data Decides (old : State) (message : List ℕ) (new : State) : Type 0 where
+  takes : reply_of message ≡ Some Done → new ≡ logged_in old → Decides old message new
+  asks : old.phase ≡ greeted → AsksFor old.terms.server.plugin message →
+      new ≡ record old { phase = switching } → Decides old message new
+  turns_away : (refusal : Refusal) → reply_of message ≡ Some (Refused refusal) →
+      TurnsAway old refusal new → Decides old message new
+
+-- what a decision that was heard leaves
+abbrev pub state_after : State → Decision → State
+state_after old Accepted = logged_in old
+state_after old (Switched found) = record old { phase = switching }
+
+-- a fault at which an honest server's message isn't heard
+abbrev pub IsMissed : SessionFault → Type 0
+IsMissed Link = Unit {0}
+IsMissed (IsRefusedBy form refusal) = ⊥
+IsMissed (Garbled place) = ⊥
+IsMissed (NotProtocol10 version) = ⊥
+IsMissed (PluginUnsupported name) = ⊥
+IsMissed (TooLong size) = Unit {0}
+IsMissed StreamTooLong = Unit {0}
+IsMissed OutOfMemory = Unit {0}
+
 -- the command makes no object
 abbrev pub MakesNothing : Command → Type 0
 MakesNothing command = HasHead (command_text command) → ⊥
@@ -79,26 +107,30 @@ pub record AwaitsRow (ends : Ends) (reading : Reading) : Type 0 where
   pub rows : reading.awaited ≡ 0
   pub ends_are : reading.ends ≡ ends
 
--- the message that was heard last began where the channel was, and more bytes were heard
-pub record IsHeardNext {L : Type 0} (old new : ChannelView L) : Type 0 where
-  pub began : new.began ≡ old.place
-  pub onward : IsOnward old.place new.place
-
 module _ {L : Type 0} (of : Ghosts L) where
+  -- the message that was heard last began where the channel was, and more bytes were heard
+  pub record HearsFurther (old new : ChannelView L) : Type 0 where
+    pub began : new.began ≡ old.place
+    pub onward : IsOnward old.place new.place
+    pub heard : WhereTold of (Hears new.message) old new
+
+  -- one of the messages before the rows was heard
+  pub record HearsOne (old_reading : Reading) (old new : ChannelView L)
+      (reading : Reading) : Type 0 where
+    pub reader : reading ≡ record old_reading { awaited = old_reading.awaited - 1 }
+    pub heard : WhereTold of (HearsDefinition old_reading) old new
+
   -- a link in this phase, on which nothing waits
   pub record IsQuiet (phase : Phase) (link : L) : Type 0 where
     pub alive : (of.served link).failed ≡ false
     pub phase_is : (of.served link).state.phase ≡ phase
     pub none : (of.served link).waiting ≡ []
 
-  -- the answer to a login waits, from this id on: an OK only where the session is open, and a request for another scramble only where
-  -- its answer is awaited
-  pub record DecisionWaits (link : L) (id : ℕ) : Type 0 where
+  -- the answer to a login waits, from this id on, which was begun in this state
+  pub record DecisionWaits (start : State) (link : L) (id : ℕ) : Type 0 where
     pub alive : (of.served link).failed ≡ false
     pub message : List ℕ
-    pub accepted : reply_of message ≡ Some Done → (of.served link).state.phase ≡ in_session
-    pub switched : (found : Switch) → switch_of message ≡ Ok found →
-        (of.served link).state.phase ≡ switching
+    pub decides : Decides start message (of.served link).state
     pub waits : (of.served link).waiting ≡ packets_from id (message ∷ [])
 
   -- a reply waits in an open session, from this id on
@@ -141,9 +173,118 @@ module _ {L : Type 0} (of : Ghosts L) where
   ServesReply reply old new =
       IsServing of old.link → DeliversReply of reply old.link old.id new.link new.id
 
-  -- an honest server's ERR was
-  abbrev pub ServesRefusal : ChannelView L → ChannelView L → Type 0
-  ServesRefusal old new = IsServing of old.link → DeliversRefusal of old.link old.id new.link new.id
+  -- an honest server's message was taken off the channel that is a reply's first or spells none, and this is answered to it
+  pub record AnswersReply (fault_of : ℕ → Option Reply → Option SessionFault)
+      (old new : ChannelView L) (fault : SessionFault) : Type 0 where
+    pub reply : Option Reply
+    pub delivers : DeliversReply of reply old.link old.id new.link new.id
+    pub fault_is : fault_of old.place reply ≡ Some fault
+
+  -- a reply's first message was heard that this is answered to, or none was
+  abbrev pub FailsReply : (ℕ → Option Reply → Option SessionFault) → ChannelView L →
+      ChannelView L → SessionFault → Type 0
+  FailsReply fault_of old new fault =
+      AnswersReply fault_of old new fault ⊎ HearsNothing of (link_of old) (link_of new) fault
+
+  -- a reply's first message was heard, or none was
+  abbrev pub ServesFirst : ChannelView L → Result (Option Reply) SessionFault → ChannelView L →
+      Type 0
+  ServesFirst old (Ok reply) new = ServesReply reply old new
+  ServesFirst old (Err fault) new =
+      IsServing of old.link → HearsNothing of (link_of old) (link_of new) fault
+
+  -- an OK was heard, or it wasn't
+  abbrev pub ServesDone : Form → ChannelView L → Result (Unit {0}) SessionFault →
+      ChannelView L → Type 0
+  ServesDone form old (Ok finished) new = ServesReply (Some Done) old new
+  ServesDone form old (Err fault) new =
+      IsServing of old.link → FailsReply (done_fault form) old new fault
+
+  -- a number of columns was heard, or it wasn't
+  abbrev pub ServesCount : Form → ChannelView L → Result ℕ SessionFault → ChannelView L → Type 0
+  ServesCount form old (Ok columns) new = ServesReply (Some (Columns columns)) old new
+  ServesCount form old (Err fault) new =
+      IsServing of old.link → FailsReply (count_fault form) old new fault
+
+  -- where a reader on the channel is
+  abbrev pub reached_on : Reading → ChannelView L → Reached
+  reached_on reading channel =
+      record { reading = reading; id = channel.id; served = of.served channel.link }
+
+  -- an honest server's state stays while bytes are taken off its link
+  abbrev pub KeepsState : L → L → Type 0
+  KeepsState old new = (of.served new).state ≡ (of.served old).state
+
+  -- an honest server's further message of a result set was taken off the channel, for a reader that was here
+  pub record ServesFurther (reading : Reading) (old new : ChannelView L) : Type 0 where
+    pub state : KeepsState old.link new.link
+    pub takes : (turns : List Further) → WaitsTurns turns (reached_on reading old) →
+        TakesTurn turns reading new.message (reached_on reading new)
+
+  -- a further message was heard that this is answered to
+  pub record AnswersFurther (form : Form) (reading : Reading) (old new : ChannelView L)
+      (fault : SessionFault) : Type 0 where
+    pub serves : ServesFurther reading old new
+    pub fault_is : further_fault form old.place (further_of reading new.message) ≡ Some fault
+
+  -- a further message was heard, or it wasn't
+  abbrev pub ServesNext : {A : Type 0} → Form → Reading → ChannelView L → Result A SessionFault →
+      ChannelView L → Type 0
+  ServesNext form reading old (Ok answer) new =
+      IsServing of old.link → ServesFurther reading old new
+  ServesNext form reading old (Err fault) new =
+      IsServing of old.link →
+      AnswersFurther form reading old new fault
+      ⊎ HearsNothing of (link_of old) (link_of new) fault
+
+  -- the messages before the rows were heard, and what came after them still waits; or one of them wasn't heard
+  abbrev pub PassesDefinitions : List Further → Ends → ℕ → Result (Unit {0}) SessionFault →
+      ChannelView L → Type 0
+  PassesDefinitions turns ending columns (Ok finished) new =
+      WaitsTurns turns (reached_on (rows_awaited ending columns) new)
+  PassesDefinitions turns ending columns (Err fault) new = IsMissed fault
+
+  -- what hearing the messages before the rows of so many columns does
+  pub record DescribesServed (ending : Ends) (columns : ℕ) (old : ChannelView L)
+      (result : Result (Unit {0}) SessionFault) (new : ChannelView L) : Type 0 where
+    pub state : KeepsState old.link new.link
+    pub passes : (turns : List Further) →
+        WaitsTurns (replicate (awaited_count ending columns) definition ++ turns)
+        (reached_on (columns_counted ending columns) old) →
+        PassesDefinitions turns ending columns result new
+
+  -- what a command that is run in this way does
+  pub record ServesRun (holder : Option L) (command : Command) (old : LinkAt L)
+      (result : Result (Unit {0}) SessionFault) (new : L) : Type 0 where
+    pub runs : RunsServed (way_of of holder) (of.served old.link).state command result
+        (of.served new).state
+    pub limits : (of.served old.link).state.terms.server.willing ≡ true →
+        PassesLimits command old.place result
+
+  -- what a fault at a login leaves, which was begun in this state
+  abbrev pub FailsDecision : State → L → SessionFault → Type 0
+  FailsDecision start new fault = FailsLogin start fault (of.served new).state
+
+  -- an honest server's message was heard, or it wasn't heard
+  pub record MissesOnly {A : Type 0} (old : L) (result : Result A SessionFault)
+      (new : L) : Type 0 where
+    pub state : KeepsState old new
+    pub missed : IfErr result IsMissed
+
+  -- the answer to a login that was begun in some state waits on the channel
+  pub record HasDecision (channel : ChannelView L) : Type 0 where
+    pub start : State
+    pub waits : DecisionWaits start channel.link channel.id
+
+  -- what the answer to a login leaves that was begun in this state
+  abbrev pub HearsDecided : State → Result Decision SessionFault → L → Type 0
+  HearsDecided start (Ok found) new = (of.served new).state ≡ state_after start found
+  HearsDecided start (Err fault) new = FailsDecision start new fault
+
+  -- a login that was begun in this state was taken, or it failed
+  abbrev pub AcceptsServed : State → Result (Unit {0}) SessionFault → L → Type 0
+  AcceptsServed start (Ok finished) new = (of.served new).state ≡ logged_in start
+  AcceptsServed start (Err fault) new = FailsDecision start new fault
 
   -- a message can be heard on the channel
   pub record AwaitsMessage (channel : ChannelView L) : Type 0 where
@@ -186,7 +327,7 @@ module _ {L : Type 0} (of : Ghosts L) where
     pub rest : AwaitsRest channel (rows_awaited ends columns)
 
   -- a statement failed: where the fault is an ERR, the session is open after it and nothing waits
-  pub record FailsStatement (fault : SessionFault) (channel : ChannelView L) : Type 0 where
+  pub record FailsOn (fault : SessionFault) (channel : ChannelView L) : Type 0 where
     pub kind : IsOfStatement fault
     pub rest : ends_session fault ≡ false → IsAtRest in_session channel
 
@@ -195,3 +336,8 @@ module _ {L : Type 0} (of : Ghosts L) where
     pub text : CommandHasText command
     pub no_create : of.honest link → (of.served link).state.terms.sole ≡ false →
         MakesNothing command
+
+  -- the command may be run over the link beside the holder, where one is lent
+  pub record MayRunBy (holder : Option L) (command : Command) (link : L) : Type 0 where
+    pub run : MayRun command link
+    pub beside : of.honest link → MaySendBy of holder link

@@ -7,8 +7,12 @@ pub mod Login
 pub mod Heard
 pub mod Lead
 pub mod Session
+pub mod Served
 pub mod Serving
 pub mod Channel
 pub mod Receiving
+pub mod Coming
+pub mod Asked
+pub mod Shown
 pub mod InStep
 pub mod Laws

@@ -9,8 +9,8 @@ use Rattle.my_packets.specs.Skims.{Skims, fault_of}
 use Rattle.my_packets.specs.Unread.{Unread}
 use Rattle.my_packets.specs.declared.frames.FrameFault.{FrameFault}
 use Rattle.my_packets.specs.declared.frames.FrameFault.TheVariants.{BadSequence, TooLong as FrameTooLong}
-use Rattle.my_session.specs.Channel.{LinkAt}
 use Rattle.my_session.specs.Serving.{IsServing, Stays, Gives}
+use Rattle.my_session.specs.Session.{LinkAt}
 use Rattle.my_session.specs.declared.fault.SessionFault.{SessionFault}
 use Rattle.my_session.specs.declared.fault.SessionFault.TheVariants.{Link, Refused, Garbled, NotProtocol10, PluginUnsupported, TooLong, StreamTooLong, OutOfMemory}
 
@@ -50,12 +50,17 @@ pub record MayTake {L : Type 0} (of : Ghosts L) (link : L) (taken : ℕ) : Type 
   pub within : taken ≤ 2 ^ 62
   pub waits : IsServing of link → (of.served link).waiting ≢ []
 
+-- nothing was sent, and an honest server's state stays
+pub record SaysNothing {L : Type 0} (of : Ghosts L) (old new : L) : Type 0 where
+  pub sent : of.tells old → (of.told new).sent ≡ (of.told old).sent
+  pub state : of.honest old → (of.served new).state ≡ (of.served old).state
+
 -- what stays of a reader, whether bytes come or not
 pub record StaysReader {L : Type 0} (of : Ghosts L) (old new : Reader L) : Type 0 where
   pub still : IsStillWithin old.taken new.taken
   pub place : new.frames.place ≡ old.frames.place
   pub limit : new.frames.limit ≡ old.frames.limit
-  pub sent : of.tells old.link → (of.told new.link).sent ≡ (of.told old.link).sent
+  pub same : SaysNothing of old.link new.link
 
 -- some bytes of a message were taken off a link, no more than are wanted
 pub record Fetches {L : Type 0} (of : Ghosts L) (wants : ℕ) (old new : Reader L) : Type 0 where
@@ -137,6 +142,7 @@ pub record Spoils {L : Type 0} (of : Ghosts L) (old : Skimmer L) (new : L)
   pub wrong : (seq limit : ℕ) (fed : List ℕ) → Skims seq limit fed old.skim →
       IsWrong limit seq (fed ++ piece) fault
   pub stream : of.tells old.link → stream (of.told old.link) ≡ piece ++ stream (of.told new)
+  pub gives : of.honest old.link → Gives of piece old.link new
 
 -- with them a packet has another sequence id than it should have, and its message began at this place
 pub record Disorders {L : Type 0} (of : Ghosts L) (old : Skimmer L) (new : L)

@@ -7,7 +7,7 @@ use Rattle.wire_forms.specs.Reading.{Reading, row, end, idle, further_of}
 use Rattle.wire_forms.specs.declared.ends.Ends.{Ends}
 use Rattle.result_rows.specs.RowCells.{row_cells}
 use Rattle.result_rows.specs.declared.row.Row.{Row}
-use Rattle.honest_server.specs.State.{Terms}
+use Rattle.honest_server.specs.Link.{ServedLink, TellsNoMore}
 use Rattle.statement_forms.specs.Form.{query_form}
 use Rattle.statement_forms.specs.Statement.{QueryHasText}
 use Rattle.statement_forms.specs.Text.{command_text}
@@ -41,6 +41,16 @@ pub record SessionView (L : Type 0) : Type 0 where
   pub peer : Peer
   pub has_failed : Bool
   pub pending : Pending
+
+-- a link, how many bytes were taken off it, and the sequence id of the next packet
+pub record LinkAt (L : Type 0) : Type 0 where
+  pub link : L
+  pub place : ℕ
+  pub id : ℕ
+
+-- the link, where so many bytes were taken off it and the next packet has this id
+abbrev pub link_at : {L : Type 0} → L → ℕ → ℕ → LinkAt L
+link_at link place id = record { link = link; place = place; id = id }
 
 -- what goes over its link
 abbrev pub wire_of : {L : Type 0} → Ghosts L → SessionView L → Wire
@@ -82,6 +92,12 @@ pub record NeedsNoMemory {A : Type 0} (IsSo : SessionFault → Type 0)
     (result : Result A SessionFault) : Type 0 where
   pub kind : IfErr result IsSo
   pub memory : result ≡ Err OutOfMemory → ⊥
+
+-- the faults of a command where there is so much room: it takes no memory where its text has at most 1,000 bytes, and there is room for that
+pub record RunFaultsIn (room : ℕ) (command : Command)
+    (result : Result (Unit {0}) SessionFault) : Type 0 where
+  pub kind : IfErr result IsOfStatement
+  pub memory : 1001 ≤ room → length (command_text command) ≤ 1000 → result ≡ Err OutOfMemory → ⊥
 
 -- the faults of a command: one whose text has at most 1,000 bytes takes no memory
 pub record RunFaults (command : Command) (result : Result (Unit {0}) SessionFault) : Type 0 where
@@ -172,12 +188,14 @@ pub record MayAsk (query : Query) (reader : ReaderView) : Type 0 where
   pub text : QueryHasText query
   pub free : IsFree reader
 
--- the same server is at the other end: honest or not, of one origin, and on the same terms
+-- the same server is at the other end: honest or not, of one origin, and on the same terms, and what it doesn't tell any more it doesn't
+-- tell again
 pub record IsSameServer {S : Type 0} (is_honest : S → Type 0) (joins : S → S → Type 0)
-    (terms_of : S → Terms) (old new : S) : Type 0 where
+    (served_of : S → ServedLink) (old new : S) : Type 0 where
   pub honest : is_honest old ↔ is_honest new
   pub origin : joins old new
-  pub terms : is_honest old → terms_of new ≡ terms_of old
+  pub terms : is_honest old → (served_of new).state.terms ≡ (served_of old).state.terms
+  pub wide : is_honest old → TellsNoMore (served_of old).keeps_wide (served_of new).keeps_wide
 
 -- what every call keeps of a reader: it tells as before, a fault of the link is counted, the greeting stands, and it has failed
 -- exactly after a fault that ends the session
@@ -206,6 +224,10 @@ module _ {L : Type 0} (of : Ghosts L) where
     id = 0;
   }
 
+  -- where a session's link is
+  abbrev pub place_of : SessionView L → LinkAt L
+  place_of session = link_at session.link session.place session.id
+
   -- a session as a reader of rows
   abbrev pub reader_view : SessionView L → ReaderView
   reader_view session =
@@ -220,7 +242,7 @@ module _ {L : Type 0} (of : Ghosts L) where
   -- the same server is at the other end of a link
   abbrev pub KeepsServer : L → L → Type 0
   KeepsServer old new =
-      IsSameServer of.honest of.same_origin (λ link. (of.served link).state.terms) old new
+      IsSameServer of.honest of.same_origin of.served old new
 
   -- what every call keeps of a session
   pub record KeepsSession {A : Type 0} (old new : SessionView L)

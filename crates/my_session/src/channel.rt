@@ -1,15 +1,15 @@
 //! A link, what is sent on it, and the messages that are heard on it.
-ghost use Rattle.std.specs.Prelude.{◌≡◌, ◌≤◌, ◌<◌, ◌+◌, [], length, take, false, IfErr, IfOk, OnOk, Err};
-ghost use Rattle.honest_server.specs.Link.{MaySend};
+ghost use Rattle.std.specs.Prelude.{◌≡◌, ◌≤◌, ◌<◌, ◌+◌, [], length, take, false, Some, None, IfErr, IfOk, OnOk, Err};
 ghost use Rattle.wire_forms.specs.Packet.{packet};
-ghost use Rattle.my_session.specs.Channel.{ChannelView, link_of, packets_within, IsOfLink, IsUnsent};
-ghost use Rattle.my_session.specs.Channel.{SendsPackets, SendsNone, Says, SaysNone, HearsNext, SkimsNext, HearsNone};
-ghost use Rattle.my_session.specs.Serving.{IsServing, KeepsLink, MaySay, MessageWaits};
+ghost use Rattle.my_session.specs.Channel.{ChannelView, link_of, outgoing, packets_within, IsOfLink};
+ghost use Rattle.my_session.specs.Channel.{MaySayPayload, MaySendPackets, SendsPackets, SendsNone, Says, SaysNone, HearsNext, SkimsNext, HearsNone};
+ghost use Rattle.my_session.specs.Serving.{IsServing, KeepsLink, MessageWaits};
 ghost use Rattle.my_session.specs.Session.{failed_by};
 
 use crate::fault::SessionFault;
 use crate::limits::{MESSAGE_LIMIT, PIECE, SHORT_PAYLOAD};
 use crate::receiving::{receive, skim_message};
+use crate::sender::{Plainly, Sender};
 use link_traits::Link;
 use my_packets::{Frames, Message, Skim, frame_into, header};
 use std::alloc::Global;
@@ -54,21 +54,6 @@ fn packets_within(bytes: u64) -> u64
     ensures { result ≡ packets_within bytes }
 {
     (bytes - 4) / 16777219 + 1
-}
-
-// Sends the packets of a payload.
-#[tactic(auto, using(crate::proofs::Sending::stream_answered))]
-fn send<L: Link>(link: &mut L, packets: &[u8]) -> Result<(), SessionFault>
-    requires may { L.honest link.old → MaySend (L.served link.old).state packets.now }
-
-    ensures keeps { KeepsLink L.Link link.old link.new result }
-    ensures ok { OnOk result (SendsPackets L.Link packets.now link.old link.new) }
-    ensures err { IfErr result (SendsNone L.Link IsOfLink link.old link.new) }
-{
-    match link.send(packets) {
-        Ok(()) => Ok(()),
-        Err(_) => Err(SessionFault::Link),
-    }
 }
 
 // Writes a payload's one packet to the front.
@@ -125,21 +110,31 @@ impl<L: Link> Channel<L> {
         link
     }
 
-    /// Sends bytes that are the packets of a payload, after which comes this id. Takes no memory. `Link`
-    /// where the link fails; then nothing was sent. The channel mustn't have failed, and on an honest
-    /// link the bytes must be whole packets that may be sent now.
-    pub fn send_packets(&mut self, packets: &[u8], next_id: u8) -> Result<(), SessionFault>
+    /// Sends bytes that are the packets of a payload, after which comes this id, beside the holder of
+    /// the read lock where one is lent. Takes no memory. `Link` where the link fails; then nothing was
+    /// sent. The channel mustn't have failed; on an honest link the bytes must be whole packets that
+    /// may be sent now, and the holder, where one is lent, must be of the same site, alive and
+    /// hold the lock, and the link must have no transactions of its own.
+    pub fn send_packets<S: Sender<L>>(
+        &mut self,
+        packets: &[u8],
+        next_id: u8,
+        sender: &S,
+    ) -> Result<(), SessionFault>
         requires alive { self.old.has_failed ≡ false }
-        requires may { L.honest self.old.link → MaySend (L.served self.old.link).state packets.now }
+        requires may { MaySendPackets L.Link (outgoing packets.now (S.holder sender.now))
+            self.old.link }
 
         ensures keeps { KeepsLink L.Link self.old.link self.new.link result }
         ensures failed { self.new.has_failed ≡ failed_by result }
         ensures place { self.new.place ≡ self.old.place }
         ensures id { OnOk result (self.new.id ≡ next_id) }
-        ensures ok { OnOk result (SendsPackets L.Link packets.now self.old.link self.new.link) }
-        ensures err { IfErr result (SendsNone L.Link IsOfLink self.old.link self.new.link) }
+        ensures ok { OnOk result (SendsPackets L.Link
+            (outgoing packets.now (S.holder sender.now)) self.old.link self.new.link) }
+        ensures err { IfErr result (SendsNone L.Link IsOfLink
+            (outgoing packets.now (S.holder sender.now)) self.old.link self.new.link) }
     {
-        match send(&mut self.link, packets) {
+        match sender.send(&mut self.link, packets) {
             Ok(()) => {
                 self.id = next_id;
                 Ok(())
@@ -153,84 +148,107 @@ impl<L: Link> Channel<L> {
 
     // Sends a short payload in one packet. Takes no memory.
     #[tactic(auto, using(crate::proofs::Sending::short_is_sent))]
-    fn say_short(&mut self, id: u8, payload: &[u8]) -> Result<(), SessionFault>
+    fn say_short<S: Sender<L>>(
+        &mut self,
+        id: u8,
+        payload: &[u8],
+        sender: &S,
+    ) -> Result<(), SessionFault>
         requires alive { self.old.has_failed ≡ false }
         requires short { length payload.now ≤ SHORT_PAYLOAD }
-        requires may { L.honest self.old.link →
-            MaySay id payload.now (L.served self.old.link).state }
+        requires may { MaySayPayload L.Link id
+            (outgoing payload.now (S.holder sender.now)) self.old.link }
 
         ensures keeps { KeepsLink L.Link self.old.link self.new.link result }
         ensures failed { self.new.has_failed ≡ failed_by result }
-        ensures ok { OnOk result (Says L.Link id payload.now self.old self.new) }
-        ensures err { IfErr result (SendsNone L.Link IsOfLink self.old.link self.new.link) }
+        ensures ok { OnOk result (Says L.Link id
+            (outgoing payload.now (S.holder sender.now)) self.old self.new) }
+        ensures memory { result ≡ Err SessionFault.OutOfMemory → ⊥ }
+        ensures err { IfErr result (SaysNone L.Link id
+            (outgoing payload.now (S.holder sender.now)) self.old self.new) }
     {
         let mut packet = [0; SHORT_PACKET];
         spell_packet(&mut packet, id, payload);
-        self.send_packets(&packet[..payload.len() + 4], id.wrapping_add(1))
+        self.send_packets(&packet[..payload.len() + 4], id.wrapping_add(1), sender)
     }
 
-    /// Sends a payload in packets from this id on. `TooLong` exactly where it is longer than 67,108,864
-    /// bytes, `OutOfMemory` where there is none for its packets, and `Link` where the link fails;
-    /// nothing was sent then. Takes no memory where it has at most 1,001 bytes. The channel mustn't have
-    /// failed; on an honest link the server must await a packet of this id, and in a session on a link
-    /// that isn't sole the payload must be no object's text.
-    #[tactic(auto, using(crate::proofs::Sending::short_says_none, crate::proofs::Sending::short_takes_none, crate::proofs::Sending::long_says_none))]
-    pub fn say(&mut self, id: u8, payload: &[u8]) -> Result<(), SessionFault>
+    /// Sends a payload in packets from this id on, beside the holder of the read lock where one is lent.
+    /// `TooLong` exactly where it is longer than 67,108,864 bytes, `OutOfMemory` where there is none for
+    /// its packets, and `Link` where the link fails; nothing was sent then. Takes no memory where it
+    /// has at most 1,001 bytes. The channel mustn't have failed; on an honest link the server must
+    /// await a packet of this id, in a session on a link that isn't sole the payload must be no
+    /// object's text, and the conditions on the holder are those of [`Channel::send_packets`].
+    pub fn say<S: Sender<L>>(
+        &mut self,
+        id: u8,
+        payload: &[u8],
+        sender: &S,
+    ) -> Result<(), SessionFault>
         requires alive { self.old.has_failed ≡ false }
-        requires may { L.honest self.old.link →
-            MaySay id payload.now (L.served self.old.link).state }
+        requires may { MaySayPayload L.Link id
+            (outgoing payload.now (S.holder sender.now)) self.old.link }
 
         ensures keeps { KeepsLink L.Link self.old.link self.new.link result }
         ensures failed { self.new.has_failed ≡ failed_by result }
-        ensures ok { OnOk result (Says L.Link id payload.now self.old self.new) }
+        ensures ok { OnOk result (Says L.Link id
+            (outgoing payload.now (S.holder sender.now)) self.old self.new) }
         ensures memory { length payload.now ≤ SHORT_PAYLOAD →
             result ≡ Err SessionFault.OutOfMemory → ⊥ }
-        ensures err { IfErr result (SaysNone L.Link payload.now self.old self.new) }
+        ensures err { IfErr result (SaysNone L.Link id
+            (outgoing payload.now (S.holder sender.now)) self.old self.new) }
     {
         if payload.len() <= SHORT_PAYLOAD {
-            return self.say_short(id, payload);
+            return self.say_short(id, payload, sender);
         }
         if payload.len() > MESSAGE_LIMIT as usize {
             self.has_failed = true;
             return Err(SessionFault::TooLong(payload.len() as u64));
         }
-        self.say_long(id, payload)
+        self.say_long(id, payload, sender)
     }
 
     /// Sends a further payload of the same exchange, with the ids after those of the message that was
     /// heard last. Refusals, memory and conditions are those of [`Channel::say`].
     pub fn answer(&mut self, payload: &[u8]) -> Result<(), SessionFault>
         requires alive { self.old.has_failed ≡ false }
-        requires may { L.honest self.old.link →
-            MaySay self.old.id payload.now (L.served self.old.link).state }
+        requires may { MaySayPayload L.Link self.old.id (outgoing payload.now None) self.old.link }
 
         ensures keeps { KeepsLink L.Link self.old.link self.new.link result }
         ensures failed { self.new.has_failed ≡ failed_by result }
-        ensures ok { OnOk result (Says L.Link self.old.id payload.now self.old self.new) }
-        ensures err { IfErr result (SaysNone L.Link payload.now self.old self.new) }
+        ensures ok { OnOk result
+            (Says L.Link self.old.id (outgoing payload.now None) self.old self.new) }
+        ensures err { IfErr result
+            (SaysNone L.Link self.old.id (outgoing payload.now None) self.old self.new) }
     {
         let id = self.id;
-        self.say(id, payload)
+        self.say(id, payload, &Plainly)
     }
 
     // Sends a payload whose packets are written to memory first.
-    fn say_long(&mut self, id: u8, payload: &[u8]) -> Result<(), SessionFault>
+    fn say_long<S: Sender<L>>(
+        &mut self,
+        id: u8,
+        payload: &[u8],
+        sender: &S,
+    ) -> Result<(), SessionFault>
         requires alive { self.old.has_failed ≡ false }
         requires within { length payload.now ≤ MESSAGE_LIMIT }
-        requires may { L.honest self.old.link →
-            MaySay id payload.now (L.served self.old.link).state }
+        requires may { MaySayPayload L.Link id
+            (outgoing payload.now (S.holder sender.now)) self.old.link }
 
         ensures keeps { KeepsLink L.Link self.old.link self.new.link result }
         ensures failed { self.new.has_failed ≡ failed_by result }
-        ensures ok { OnOk result (Says L.Link id payload.now self.old self.new) }
-        ensures err { IfErr result (SendsNone L.Link IsUnsent self.old.link self.new.link) }
+        ensures ok { OnOk result (Says L.Link id
+            (outgoing payload.now (S.holder sender.now)) self.old self.new) }
+        ensures err { IfErr result (SaysNone L.Link id
+            (outgoing payload.now (S.holder sender.now)) self.old self.new) }
     {
         self.packets.clear();
         let Ok(next_id) = frame_into(payload, id, &mut self.packets) else {
             self.has_failed = true;
             return Err(SessionFault::OutOfMemory);
         };
-        match send(&mut self.link, &self.packets) {
+        match sender.send(&mut self.link, &self.packets) {
             Ok(()) => {
                 self.id = next_id;
                 Ok(())
@@ -322,6 +340,20 @@ impl<L: Link> Channel<L> {
             payload: message.payload,
             place: self.began,
             next_seq: self.id,
+        }
+    }
+}
+
+impl<L: Link> Sender<L> for Channel<L> {
+    ghost use Rattle.std.specs.Prelude.{Some};
+
+    ghost holder = { λ channel. Some channel.link };
+
+    #[tactic(auto, using(crate::proofs::Sending::stream_answered))]
+    fn send(&self, link: &mut L, packets: &[u8]) -> Result<(), SessionFault> {
+        match link.send_beside(&self.link, packets) {
+            Ok(()) => Ok(()),
+            Err(_) => Err(SessionFault::Link),
         }
     }
 }

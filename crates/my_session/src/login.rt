@@ -1,19 +1,21 @@
 //! Logging in.
-ghost use Rattle.std.specs.Prelude.{◌≡◌, ◌≤◌, ◌+◌, length, false, Some, Ok, Err, IfErr, IfOk, OnOk, MatchResult, option_copied};
-ghost use Rattle.honest_server.specs.State.{greeted, switching, in_session};
+ghost use Rattle.std.specs.Prelude.{◌≡◌, ◌≤◌, ◌+◌, length, false, Some, None, Ok, Err, IfErr, IfOk, OnOk, MatchResult, option_copied};
+ghost use Rattle.honest_server.specs.Moves.{plainly};
+ghost use Rattle.honest_server.specs.State.{State, greeted, switching, in_session};
 ghost use Rattle.wire_forms.specs.Response.{response};
 ghost use Rattle.wire_forms.specs.Switch.{switch_of};
 ghost use Rattle.wire_forms.specs.Reply.{reply_of};
 ghost use Rattle.statement_forms.specs.declared.command.Command.{Command};
 ghost use Rattle.statement_forms.specs.declared.command.Command.TheVariants.{SetUp};
 ghost use Rattle.my_session.specs.Awaited.{greeting, decision, greeting_fault, decision_fault, switch_fault};
-ghost use Rattle.my_session.specs.Channel.{channel_wire, Says, SaysNone, FaultWhereTold, WhereTold};
+ghost use Rattle.my_session.specs.Channel.{channel_wire, outgoing, Says, SaysNone, FaultWhereTold, WhereTold};
 ghost use Rattle.my_session.specs.Halt.{Halts};
 ghost use Rattle.my_session.specs.Heard.{HearsGreeting, HearsDecision, IsDecision, AcceptsSwitched, StopsSwitched, AcceptsGreeted, StopsGreeted, LoginStops};
-ghost use Rattle.my_session.specs.InStep.{phase_after, AwaitsGreeting, DecisionWaits, IsQuiet};
+ghost use Rattle.my_session.specs.InStep.{phase_after, AcceptsServed, AwaitsGreeting, DecisionWaits, FailsDecision, HasDecision, HearsDecided, IsAtRest, IsQuiet, MissesOnly};
 ghost use Rattle.my_session.specs.Login.{password_answer, switch_answer, IsGreeted, IsLoggedIn};
 ghost use Rattle.my_session.specs.Peer.{IsPeerOf, peer_of};
-ghost use Rattle.my_session.specs.Serving.{KeepsLink};
+ghost use Rattle.my_session.specs.Served.{LogsInServed, RunsServed};
+ghost use Rattle.my_session.specs.Serving.{IsServing, KeepsLink};
 ghost use Rattle.my_session.specs.Session.{Runs};
 ghost use Rattle.my_session.specs.Wire.{Takes};
 
@@ -22,6 +24,7 @@ use crate::fault::SessionFault;
 use crate::limits::SHORT_PAYLOAD;
 use crate::peer::Peer;
 use crate::run::{hear_done, read_reply, run_on};
+use crate::sender::Plainly;
 use link_traits::Link;
 use my_login::{LoginMessage, native_answer, response_into};
 use plain_data::Buffer;
@@ -92,6 +95,8 @@ fn hear_greeting<L: Link>(channel: &mut Channel<L>) -> Result<Greeting, SessionF
     ensures server { IfOk result (λ found. L.honest channel.new.link →
         IsPeerOf (L.served channel.new.link).state.terms.server (peer_of found)) }
     ensures alive { OnOk result (channel.new.has_failed ≡ false) }
+    ensures served { IsServing L.Link channel.old.link →
+        MissesOnly L.Link channel.old.link result channel.new.link }
     ensures heard { IfOk result
         (λ found. WhereTold L.Link (HearsGreeting found) channel.old channel.new) }
     ensures err { IfErr result (FaultWhereTold L.Link (Halts greeting) channel.old channel.new) }
@@ -118,13 +123,13 @@ fn respond<L: Link>(
     requires quiet { L.honest channel.old.link → IsQuiet L.Link greeted channel.old.link }
 
     ensures keeps { KeepsLink L.Link channel.old.link channel.new.link result }
-    ensures decision { OnOk result
-        (L.honest channel.new.link → DecisionWaits L.Link channel.new.link channel.new.id) }
+    ensures decision { OnOk result (L.honest channel.new.link → DecisionWaits L.Link
+        (L.served channel.old.link).state channel.new.link channel.new.id) }
     ensures alive { OnOk result (channel.new.has_failed ≡ false) }
-    ensures says { OnOk result (Says L.Link channel.old.id
-        (response user.now (option_copied answer.entry) ends) channel.old channel.new) }
-    ensures err { IfErr result (SaysNone L.Link
-        (response user.now (option_copied answer.entry) ends) channel.old channel.new) }
+    ensures says { OnOk result (Says L.Link channel.old.id (outgoing
+        (response user.now (option_copied answer.entry) ends) None) channel.old channel.new) }
+    ensures err { IfErr result (SaysNone L.Link channel.old.id (outgoing
+        (response user.now (option_copied answer.entry) ends) None) channel.old channel.new) }
 {
     let mut out = Vec::new(alloc);
     if response_into(user, answer, ends, &mut out).is_err() {
@@ -143,9 +148,11 @@ fn greet<L: Link>(
     requires awaits { AwaitsGreeting L.Link channel.old }
 
     ensures keeps { KeepsLink L.Link channel.old.link channel.new.link result }
-    ensures decision { OnOk result
-        (L.honest channel.new.link → DecisionWaits L.Link channel.new.link channel.new.id) }
+    ensures decision { OnOk result (L.honest channel.new.link → DecisionWaits L.Link
+        (L.served channel.old.link).state channel.new.link channel.new.id) }
     ensures alive { OnOk result (channel.new.has_failed ≡ false) }
+    ensures served { IsServing L.Link channel.old.link → IfErr result
+        (FailsDecision L.Link (L.served channel.old.link).state channel.new.link) }
     ensures server { IfOk result (λ peer. L.honest channel.new.link →
         IsPeerOf (L.served channel.new.link).state.terms.server peer) }
     ensures ok { IfOk result (λ peer. WhereTold L.Link
@@ -197,10 +204,12 @@ fn read_decision(place: u64, payload: &[u8]) -> Result<Decision, SessionFault>
 // Hears what the server decides.
 fn hear_decision<L: Link>(channel: &mut Channel<L>) -> Result<Decision, SessionFault>
     requires alive { channel.old.has_failed ≡ false }
-    requires decision { L.honest channel.old.link →
-        DecisionWaits L.Link channel.old.link channel.old.id }
+    requires decision { L.honest channel.old.link → HasDecision L.Link channel.old }
 
     ensures keeps { KeepsLink L.Link channel.old.link channel.new.link result }
+    ensures served { (start : State) → L.honest channel.old.link →
+        DecisionWaits L.Link start channel.old.link channel.old.id →
+        HearsDecided L.Link start result channel.new.link }
     ensures quiet { IfOk result
         (λ found. L.honest channel.new.link → IsQuiet L.Link (phase_after found) channel.new.link) }
     ensures alive { OnOk result (channel.new.has_failed ≡ false) }
@@ -228,6 +237,8 @@ fn answer_switch<L: Link>(
     ensures quiet { OnOk result
         (L.honest channel.new.link → IsQuiet L.Link in_session channel.new.link) }
     ensures alive { OnOk result (channel.new.has_failed ≡ false) }
+    ensures served { L.honest channel.old.link → AcceptsServed L.Link
+        (L.served channel.old.link).state result channel.new.link }
     ensures ok { OnOk result
         (WhereTold L.Link (AcceptsSwitched password.now switch) channel.old channel.new) }
     ensures err { IfErr result
@@ -249,13 +260,13 @@ fn send_answer<L: Link>(
     requires quiet { L.honest channel.old.link → IsQuiet L.Link switching channel.old.link }
 
     ensures keeps { KeepsLink L.Link channel.old.link channel.new.link result }
-    ensures decision { OnOk result
-        (L.honest channel.new.link → DecisionWaits L.Link channel.new.link channel.new.id) }
+    ensures decision { OnOk result (L.honest channel.new.link → DecisionWaits L.Link
+        (L.served channel.old.link).state channel.new.link channel.new.id) }
     ensures alive { OnOk result (channel.new.has_failed ≡ false) }
     ensures says { OnOk result (Says L.Link channel.old.id
-        (switch_answer (option_copied answer.entry)) channel.old channel.new) }
-    ensures err { IfErr result
-        (SaysNone L.Link (switch_answer (option_copied answer.entry)) channel.old channel.new) }
+        (outgoing (switch_answer (option_copied answer.entry)) None) channel.old channel.new) }
+    ensures err { IfErr result (SaysNone L.Link channel.old.id
+        (outgoing (switch_answer (option_copied answer.entry)) None) channel.old channel.new) }
 {
     match answer {
         Some(bytes) => channel.answer(bytes),
@@ -266,10 +277,12 @@ fn send_answer<L: Link>(
 // Hears that the login is accepted, over another scramble where the server asks for that.
 fn be_accepted<L: Link>(channel: &mut Channel<L>, password: &[u8]) -> Result<(), SessionFault>
     requires alive { channel.old.has_failed ≡ false }
-    requires decision { L.honest channel.old.link →
-        DecisionWaits L.Link channel.old.link channel.old.id }
+    requires decision { L.honest channel.old.link → HasDecision L.Link channel.old }
 
     ensures keeps { KeepsLink L.Link channel.old.link channel.new.link result }
+    ensures served { (start : State) → L.honest channel.old.link →
+        DecisionWaits L.Link start channel.old.link channel.old.id →
+        AcceptsServed L.Link start result channel.new.link }
     ensures quiet { OnOk result
         (L.honest channel.new.link → IsQuiet L.Link in_session channel.new.link) }
     ensures alive { OnOk result (channel.new.has_failed ≡ false) }
@@ -297,11 +310,13 @@ fn set_up<L: Link>(channel: &mut Channel<L>, payload: &mut Buffer) -> Result<(),
     ensures room { OnOk result (SHORT_PAYLOAD ≤ length payload.new.bytes + payload.new.spare) }
     ensures runs { L.tells channel.old.link →
         Runs SetUp (channel_wire L.Link channel.old) result (channel_wire L.Link channel.new) }
+    ensures served { L.honest channel.old.link → RunsServed plainly
+        (L.served channel.old.link).state SetUp result (L.served channel.new.link).state }
 {
     if payload.reserve(SHORT_PAYLOAD).is_err() {
         return Err(SessionFault::OutOfMemory);
     }
-    run_on(channel, payload, &Command::SetUp)
+    run_on(channel, payload, &Command::SetUp, &Plainly)
 }
 
 /// Logs in over a link on which nothing was heard, and answers what the greeting says of the server.
@@ -315,11 +330,11 @@ pub(crate) fn log_in<L: Link>(
     requires awaits { AwaitsGreeting L.Link channel.old }
 
     ensures keeps { KeepsLink L.Link channel.old.link channel.new.link result }
-    ensures quiet { OnOk result
-        (L.honest channel.new.link → IsQuiet L.Link in_session channel.new.link) }
+    ensures rest { OnOk result (IsAtRest L.Link in_session channel.new) }
     ensures server { IfOk result (λ peer. L.honest channel.new.link →
         IsPeerOf (L.served channel.new.link).state.terms.server peer) }
-    ensures alive { OnOk result (channel.new.has_failed ≡ false) }
+    ensures served { IsServing L.Link channel.old.link → LogsInServed
+        (L.served channel.old.link).state result (L.served channel.new.link).state }
     ensures room { OnOk result (SHORT_PAYLOAD ≤ length payload.new.bytes + payload.new.spare) }
     ensures ok { IfOk result (λ peer. WhereTold L.Link
         (Takes (IsLoggedIn user.now password.now peer)) channel.old channel.new) }

@@ -3,10 +3,11 @@ ghost use Rattle.std.specs.Prelude.{◌≡◌, ◌<◌, ◌≤◌, ◌+◌, ◌-
 ghost use Rattle.my_packets.specs.Front.{Wants};
 ghost use Rattle.my_packets.specs.Skims.{wanted};
 ghost use Rattle.my_packets.specs.Steps.{Passes};
-ghost use Rattle.my_session.specs.Channel.{link_at, HearsNext, HearsNone, SkimsTo};
+ghost use Rattle.my_session.specs.Channel.{HearsNext, HearsNone, SkimsTo};
 ghost use Rattle.my_session.specs.Receiving.{Fetches, IsReader, IsStillWithin, MayTake, SkimsPiece, StaysReader, reader_at, skimmer_at};
-ghost use Rattle.my_session.specs.Receiving.{Unfetched, Unsettled, Unskimmed};
+ghost use Rattle.my_session.specs.Receiving.{SaysNothing, Unfetched, Unsettled, Unskimmed};
 ghost use Rattle.my_session.specs.Serving.{IsServing, KeepsLink, MessageWaits};
+ghost use Rattle.my_session.specs.Session.{link_at};
 
 use crate::fault::SessionFault;
 use crate::limits::{MESSAGE_LIMIT, PIECE, SESSION_LIMIT};
@@ -126,7 +127,7 @@ fn skim_piece<L: Link>(
 
     ensures keeps { KeepsLink L.Link link.old link.new result }
     ensures still { IsStillWithin taken.old taken.new }
-    ensures sent { L.tells link.old → (L.told link.new).sent ≡ (L.told link.old).sent }
+    ensures same { SaysNothing L.Link link.old link.new }
     ensures ok { OnOk result (SkimsPiece L.Link (skimmer_at link.old skim.old taken.old)
         (skimmer_at link.new skim.new taken.new)) }
     ensures err { IfErr result

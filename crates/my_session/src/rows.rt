@@ -1,16 +1,17 @@
 //! Queries, and their rows.
-ghost use Rattle.std.specs.Prelude.{◌≡◌, ◌≤◌, ◌<◌, ◌↔◌, ◌+◌, ◌-◌, ℕ, length, true, false, Some, Ok, Err, IfErr, IfOk, OnOk, MatchResult, option_copied};
+ghost use Rattle.std.specs.Prelude.{◌≡◌, ◌≤◌, ◌<◌, ◌↔◌, ◌+◌, ◌-◌, ℕ, length, true, false, Some, None, Ok, Err, IfErr, IfOk, OnOk, MatchResult, option_copied};
 ghost use Rattle.wire_forms.specs.Reading.{idle, awaited_count, columns_counted, definition_if, further_of, reading_after};
 ghost use Rattle.wire_forms.specs.declared.reply.Reply.TheVariants.{Columns};
 ghost use Rattle.statement_forms.specs.Form.{query_form};
 ghost use Rattle.statement_forms.specs.Statement.{QueryHasText};
 ghost use Rattle.statement_forms.specs.Text.{query_text};
 ghost use Rattle.my_session.specs.Awaited.{count, further};
-ghost use Rattle.my_session.specs.Channel.{channel_wire, Says, SaysNone, FaultWhereTold, WhereTold};
+ghost use Rattle.my_session.specs.Channel.{channel_wire, outgoing, Says, SaysNone, FaultWhereTold, WhereTold};
 ghost use Rattle.my_session.specs.Halt.{Halts};
 ghost use Rattle.my_session.specs.Heard.{HearsReply, HearsDefinition, IsAfterRow, Judges};
 ghost use Rattle.honest_server.specs.State.{in_session};
-ghost use Rattle.my_session.specs.InStep.{AwaitsDefinition, AwaitsReply, AwaitsRest, AwaitsRow, FollowsEnds, HasCounted, HasOpened, IsAtRest, IsHeardNext, FailsStatement};
+ghost use Rattle.my_session.specs.Asked.{AsksServed, LeadsServed};
+ghost use Rattle.my_session.specs.InStep.{AwaitsDefinition, AwaitsReply, AwaitsRest, AwaitsRow, DescribesServed, FailsOn, FollowsEnds, HasCounted, HasOpened, HearsFurther, HearsOne, IsAtRest, ServesCount, ServesNext, reached_on};
 ghost use Rattle.my_session.specs.Lead.{lead_of};
 ghost use Rattle.my_session.specs.Serving.{KeepsLink};
 ghost use Rattle.my_session.specs.Session.{Asks, Describes, EndsStatement, IsOfStatement, LeadStops, failed_by, rows_awaited};
@@ -20,8 +21,10 @@ ghost use Rattle.my_session.specs.Wire.{Hears, Takes};
 
 use crate::channel::Channel;
 use crate::fault::SessionFault;
+use crate::ranges::look_at_numbers;
 use crate::reads::Reads;
 use crate::run::{hear_reply, run_on};
+use crate::sender::Plainly;
 use crate::session::Session;
 use link_traits::Link;
 use my_packets::Message;
@@ -87,9 +90,11 @@ fn lead<L: Link>(
     ensures ok { OnOk result (WhereTold L.Link (Takes (IsLed query.now)) channel.old channel.new) }
     ensures err { IfErr result
         (FaultWhereTold L.Link (LeadStops query.now) channel.old channel.new) }
+    ensures served { L.honest channel.old.link → LeadsServed query.now
+        (L.served channel.old.link).state result (L.served channel.new.link).state }
 {
     match lead_of(query) {
-        Some(schema) => run_on(channel, payload, &Command::Use(Part::of(schema))),
+        Some(schema) => run_on(channel, payload, &Command::Use(Part::of(schema)), &Plainly),
         None => Ok(()),
     }
 }
@@ -129,15 +134,15 @@ fn send_query<L: Link>(
     ensures room { length payload.old.bytes + payload.old.spare ≤ length payload.new.bytes
         + payload.new.spare }
     ensures fault { IfErr result EndsStatement }
-    ensures says { OnOk result
-        (Says L.Link 0 (query_payload (query_text query.now)) channel.old channel.new) }
-    ensures err { IfErr result
-        (SaysNone L.Link (query_payload (query_text query.now)) channel.old channel.new) }
+    ensures says { OnOk result (Says L.Link 0
+        (outgoing (query_payload (query_text query.now)) None) channel.old channel.new) }
+    ensures err { IfErr result (SaysNone L.Link 0
+        (outgoing (query_payload (query_text query.now)) None) channel.old channel.new) }
 {
     if let Err(fault) = write_query(payload, query) {
         return Err(fault);
     }
-    channel.say(0, payload.as_slice())
+    channel.say(0, payload.as_slice(), &Plainly)
 }
 
 // Hears the number of columns.
@@ -154,7 +159,8 @@ fn hear_count<L: Link>(
     ensures keeps { KeepsLink L.Link channel.old.link channel.new.link result }
     ensures counted { IfOk result
         (λ columns. HasCounted L.Link reader.old.ends columns channel.new reader.new) }
-    ensures fault { IfErr result (λ fault. FailsStatement L.Link fault channel.new) }
+    ensures fault { IfErr result (λ fault. FailsOn L.Link fault channel.new) }
+    ensures served { ServesCount L.Link form channel.old result channel.new }
     ensures heard { IfOk result (λ columns. WhereTold L.Link
         (HearsReply (Some (Columns columns))) channel.old channel.new) }
     ensures err { IfErr result
@@ -198,12 +204,10 @@ fn hear_definition<L: Link>(
     ensures keeps { KeepsLink L.Link channel.old.link channel.new.link result }
     ensures rest { OnOk result (AwaitsRest L.Link channel.new reader.new) }
     ensures fault { IfErr result EndsStatement }
-    ensures reader { OnOk result
-        (reader.new ≡ record reader.old { awaited = reader.old.awaited - 1 }) }
-    ensures heard { OnOk result
-        (WhereTold L.Link (HearsDefinition reader.old) channel.old channel.new) }
+    ensures ok { OnOk result (HearsOne L.Link reader.old channel.old channel.new reader.new) }
     ensures err { IfErr result
         (FaultWhereTold L.Link (Halts (further form reader.old)) channel.old channel.new) }
+    ensures served { ServesNext L.Link form reader.old channel.old result channel.new }
 {
     let place = channel.place();
     if let Err(fault) = channel.hear() {
@@ -243,6 +247,8 @@ fn describe<L: Link>(
     ensures reader { OnOk result (reader.new ≡ rows_awaited ends columns) }
     ensures describes { L.tells channel.old.link → Describes query.now (columns_counted ends
         columns) (channel_wire L.Link channel.old) result (channel_wire L.Link channel.new) }
+    ensures served { L.honest channel.old.link →
+        DescribesServed L.Link ends columns channel.old result channel.new }
 {
     let form = query.form();
     let mut left = awaited_count(ends, columns);
@@ -268,13 +274,17 @@ fn ask<L: Link>(
     requires follows { FollowsEnds L.Link ends reader.old channel.old.link }
 
     ensures keeps { KeepsLink L.Link channel.old.link channel.new.link result }
-    ensures opened { IfOk result (λ columns. HasOpened L.Link ends columns channel.new reader.new) }
+    ensures opened { MatchResult result
+        (λ columns. HasOpened L.Link ends columns channel.new reader.new)
+        (λ fault. FailsOn L.Link fault channel.new) }
     ensures room { length payload.old.bytes + payload.old.spare ≤ length payload.new.bytes
         + payload.new.spare }
-    ensures fault { IfErr result (λ fault. FailsStatement L.Link fault channel.new) }
+    ensures served { L.honest channel.old.link → AsksServed query.now
+        (L.served channel.old.link).state result (reached_on L.Link reader.new channel.new) }
     ensures asks { L.tells channel.old.link → Asks ends query.now
         (channel_wire L.Link channel.old) result (channel_wire L.Link channel.new) }
 {
+    look_at_numbers(query);
     if let Err(fault) = lead(channel, payload, query) {
         return Err(fault);
     }
@@ -330,13 +340,12 @@ fn advance<L: Link>(
 
     ensures keeps { KeepsLink L.Link channel.old.link channel.new.link result }
     ensures rest { failed_by result ≡ false → AwaitsRest L.Link channel.new reader.new }
-    ensures next { OnOk result (IsHeardNext channel.old channel.new) }
+    ensures next { OnOk result (HearsFurther L.Link channel.old channel.new) }
     ensures reader { MatchResult result (λ is_row. IsAfterRow ends reader.old channel.new.message
         is_row reader.new) (λ _. reader.new ≡ idle ends) }
-    ensures heard { OnOk result
-        (WhereTold L.Link (Hears channel.new.message) channel.old channel.new) }
     ensures err { IfErr result
         (FaultWhereTold L.Link (Halts (further form reader.old)) channel.old channel.new) }
+    ensures served { ServesNext L.Link form reader.old channel.old result channel.new }
 {
     if let Err(fault) = channel.hear() {
         *reader = RowReader::new(ends);
@@ -352,13 +361,15 @@ impl<L: Link> Reads for Session<L> {
 
     ghost same_origin = { λ one other. L.same_origin one.link other.link };
 
-    ghost terms = { λ session. (L.served session.link).state.terms };
+    ghost served = { λ session. L.served session.link };
 
     ghost tells = { λ session. L.tells session.link };
 
     ghost view = { reader_view L.Link };
 
     ghost origin_begins = { λ one. L.origin_begins one.link };
+
+    ghost sound = { λ one honest. L.sound one.link honest };
 
     ghost origins_join = { λ one next last. L.origins_join one.link next.link last.link };
 

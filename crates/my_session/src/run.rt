@@ -4,17 +4,18 @@ ghost use Rattle.wire_forms.specs.Reply.{reply_of};
 ghost use Rattle.statement_forms.specs.Statement.{CommandHasText};
 ghost use Rattle.statement_forms.specs.Text.{command_text};
 ghost use Rattle.my_session.specs.Awaited.{done};
-ghost use Rattle.my_session.specs.Channel.{channel_wire, IsOfChannel, FaultWhereTold, WhereTold};
+ghost use Rattle.my_session.specs.Channel.{channel_wire, link_of, IsOfChannel, FaultWhereTold, WhereTold};
 ghost use Rattle.my_session.specs.Halt.{Halts, Misheard};
 ghost use Rattle.my_session.specs.Heard.{HasColumns, HearsReply, ReadsReply, reading_of};
 ghost use Rattle.honest_server.specs.State.{in_session};
-ghost use Rattle.my_session.specs.InStep.{AwaitsMessage, IsAtRest, MayRun, ServesRefusal, ServesReply};
+ghost use Rattle.my_session.specs.InStep.{AwaitsMessage, IsAtRest, MayRunBy, ServesDone, ServesFirst, ServesRun};
 ghost use Rattle.my_session.specs.Serving.{KeepsLink};
-ghost use Rattle.my_session.specs.Session.{IsOfStatement, NeedsNoMemory, Runs, ends_session, failed_by};
+ghost use Rattle.my_session.specs.Session.{IsOfStatement, NeedsNoMemory, RunFaultsIn, Runs, failed_by};
 ghost use Rattle.my_session.specs.Statements.{command_payload};
 
 use crate::channel::Channel;
 use crate::fault::SessionFault;
+use crate::sender::Sender;
 use link_traits::Link;
 use plain_data::Buffer;
 use result_rows::RowReader;
@@ -31,7 +32,7 @@ pub(crate) fn hear_reply<L: Link>(
     requires awaits { AwaitsMessage L.Link channel.old }
 
     ensures keeps { KeepsLink L.Link channel.old.link channel.new.link result }
-    ensures delivers { IfOk result (λ reply. ServesReply L.Link reply channel.old channel.new) }
+    ensures served { ServesFirst L.Link channel.old result channel.new }
     ensures alive { OnOk result (channel.new.has_failed ≡ false) }
     ensures fault { NeedsNoMemory IsOfChannel result }
     ensures reads { IfOk result (λ reply. ReadsReply reader.old reply reader.new) }
@@ -60,9 +61,7 @@ pub(crate) fn hear_done<L: Link>(channel: &mut Channel<L>, form: Form) -> Result
     requires awaits { AwaitsMessage L.Link channel.old }
 
     ensures keeps { KeepsLink L.Link channel.old.link channel.new.link result }
-    ensures done { OnOk result (ServesReply L.Link (Some Reply.Done) channel.old channel.new) }
-    ensures refusal { IfErr result
-        (λ fault. ends_session fault ≡ false → ServesRefusal L.Link channel.old channel.new) }
+    ensures served { ServesDone L.Link form channel.old result channel.new }
     ensures alive { failed_by result ≡ false → channel.new.has_failed ≡ false }
     ensures fault { NeedsNoMemory IsOfStatement result }
     ensures heard { OnOk result
@@ -102,30 +101,32 @@ fn write_command(payload: &mut Buffer, command: &Command<'_>) -> Result<(), Sess
     }
 }
 
-/// Runs a command. Where its text has at most 1,000 bytes, for which there is room, it takes no memory.
+/// Runs a command, beside the holder of the read lock where one is lent. Where its text has at most 1,000
+/// bytes, for which there is room, it takes no memory.
 #[tactic(auto, using(crate::proofs::Answering::channel_of_statement, crate::proofs::Answering::channel_ends))]
-pub(crate) fn run_on<L: Link>(
+pub(crate) fn run_on<L: Link, S: Sender<L>>(
     channel: &mut Channel<L>,
     payload: &mut Buffer,
     command: &Command<'_>,
+    sender: &S,
 ) -> Result<(), SessionFault>
     requires rest { IsAtRest L.Link in_session channel.old }
-    requires may { MayRun L.Link command.now channel.old.link }
+    requires may { MayRunBy L.Link (S.holder sender.now) command.now channel.old.link }
 
     ensures keeps { KeepsLink L.Link channel.old.link channel.new.link result }
     ensures rest { failed_by result ≡ false → IsAtRest L.Link in_session channel.new }
     ensures room { length payload.old.bytes + payload.old.spare ≤ length payload.new.bytes
         + payload.new.spare }
-    ensures fault { IfErr result IsOfStatement }
-    ensures memory { 1001 ≤ length payload.old.bytes + payload.old.spare →
-        length (command_text command.now) ≤ 1000 → result ≡ Err SessionFault.OutOfMemory → ⊥ }
+    ensures fault { RunFaultsIn (length payload.old.bytes + payload.old.spare) command.now result }
     ensures runs { L.tells channel.old.link → Runs command.now
         (channel_wire L.Link channel.old) result (channel_wire L.Link channel.new) }
+    ensures served { L.honest channel.old.link → ServesRun L.Link (S.holder sender.now)
+        command.now (link_of channel.old) result channel.new.link }
 {
     if let Err(fault) = write_command(payload, command) {
         return Err(fault);
     }
-    if let Err(fault) = channel.say(0, payload.as_slice()) {
+    if let Err(fault) = channel.say(0, payload.as_slice(), sender) {
         return Err(fault);
     }
     hear_done(channel, command.form())

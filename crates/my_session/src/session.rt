@@ -1,15 +1,17 @@
 //! A session.
-ghost use Rattle.std.specs.Prelude.{◌≡◌, false, MatchResult};
+ghost use Rattle.std.specs.Prelude.{◌≡◌, false, Some, None, MatchResult};
 ghost use Rattle.wire_forms.specs.Reading.{idle};
-ghost use Rattle.my_session.specs.InStep.{GreetingWaits, MayRun};
+ghost use Rattle.my_session.specs.InStep.{GreetingWaits, MayRun, MayRunBy, ServesRun};
+ghost use Rattle.my_session.specs.Served.{ClosesServed, FailsLogin, OpensSession};
 ghost use Rattle.my_session.specs.Peer.{IsPeerOf};
-ghost use Rattle.my_session.specs.Session.{Closes, IsFree, KeepsServer, KeepsSession, LoggedIn, LoginStopped, RunFaults, Runs, reader_view, wire_of};
+ghost use Rattle.my_session.specs.Session.{Closes, IsFree, KeepsServer, KeepsSession, LoggedIn, LoginStopped, RunFaults, Runs, place_of, reader_view, wire_of};
 
 use crate::channel::Channel;
 use crate::fault::SessionFault;
 use crate::login::log_in;
 use crate::peer::Peer;
 use crate::run::run_on;
+use crate::sender::{Plainly, Sender};
 use link_traits::Link;
 use plain_data::Buffer;
 use result_rows::RowReader;
@@ -68,6 +70,9 @@ impl<L: Link> Session<L> {
             (λ gone. KeepsServer L.Link link gone.0) }
         ensures logs_in { MatchResult result (λ session. LoggedIn L.Link user.now password.now link
             session) (λ gone. LoginStopped L.Link user.now password.now link gone.0 gone.1) }
+        ensures served { L.honest link → (L.served link).failed ≡ false → MatchResult result
+            (λ session. OpensSession (L.served link).state (L.served session.link).state)
+            (λ gone. FailsLogin (L.served link).state gone.1 (L.served gone.0).state) }
     {
         let mut channel = Channel::new(alloc, link);
         let mut payload = Buffer::new(alloc);
@@ -98,8 +103,54 @@ impl<L: Link> Session<L> {
         ensures fault { RunFaults command.now result }
         ensures runs { L.tells self.old.link →
             Runs command.now (wire_of L.Link self.old) result (wire_of L.Link self.new) }
+        ensures served { L.honest self.old.link →
+            ServesRun L.Link None command.now (place_of L.Link self.old) result self.new.link }
     {
-        match run_on(&mut self.channel, &mut self.payload, command) {
+        self.run_so(command, &Plainly)
+    }
+
+    /// Runs a command while a session that holds the read lock is lent: it is handled at what that one
+    /// has seen. The conditions are those of [`Session::run`], and on an honest link that the other is
+    /// of the same site, hasn't failed and holds the lock, and that this one has no transactions of its
+    /// own. Where the holder hasn't seen what this session has, the link fails. What takes no memory
+    /// there takes none here.
+    pub fn run_beside(
+        &mut self,
+        holder: &Session<L>,
+        command: &Command<'_>,
+    ) -> Result<(), SessionFault>
+        requires free { IsFree (reader_view L.Link self.old) }
+        requires may { MayRunBy L.Link (Some holder.now.link) command.now self.old.link }
+
+        ensures keeps { KeepsSession L.Link self.old self.new result }
+        ensures pending { self.new.pending.reading ≡ idle self.new.peer.ends }
+        ensures fault { RunFaults command.now result }
+        ensures runs { L.tells self.old.link →
+            Runs command.now (wire_of L.Link self.old) result (wire_of L.Link self.new) }
+        ensures served { L.honest self.old.link → ServesRun L.Link (Some holder.now.link)
+            command.now (place_of L.Link self.old) result self.new.link }
+    {
+        self.run_so(command, &holder.channel)
+    }
+
+    // Runs a command, beside the holder of the read lock where one is lent.
+    fn run_so<S: Sender<L>>(
+        &mut self,
+        command: &Command<'_>,
+        sender: &S,
+    ) -> Result<(), SessionFault>
+        requires free { IsFree (reader_view L.Link self.old) }
+        requires may { MayRunBy L.Link (S.holder sender.now) command.now self.old.link }
+
+        ensures keeps { KeepsSession L.Link self.old self.new result }
+        ensures pending { self.new.pending.reading ≡ idle self.new.peer.ends }
+        ensures fault { RunFaults command.now result }
+        ensures runs { L.tells self.old.link →
+            Runs command.now (wire_of L.Link self.old) result (wire_of L.Link self.new) }
+        ensures served { L.honest self.old.link → ServesRun L.Link (S.holder sender.now)
+            command.now (place_of L.Link self.old) result self.new.link }
+    {
+        match run_on(&mut self.channel, &mut self.payload, command, sender) {
             Ok(()) => Ok(()),
             Err(fault) => {
                 self.has_failed = fault.ends_session();
@@ -134,10 +185,12 @@ impl<L: Link> Session<L> {
     }
 
     /// Ends the session, and gives its link back. Where the session hasn't failed it sends COM_QUIT,
-    /// whatever comes of that. Takes no memory.
+    /// whatever comes of that; an honest server's link is over then, or as it was. Takes no memory.
     pub fn close(self) -> L
         ensures server { KeepsServer L.Link self.link result }
         ensures closes { Closes L.Link QUIT.now self result }
+        ensures served { L.honest self.link → self.has_failed ≡ false →
+            ClosesServed (L.served self.link).state (L.served result).state }
     {
         let Session {
             mut channel,
@@ -148,7 +201,7 @@ impl<L: Link> Session<L> {
             has_failed,
         } = self;
         if !has_failed {
-            let _ = channel.send_packets(QUIT, 1);
+            let _ = channel.send_packets(QUIT, 1, &Plainly);
         }
         channel.into_link()
     }

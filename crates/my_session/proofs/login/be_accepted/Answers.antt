@@ -1,10 +1,24 @@
-use Rattle.std.proofs.Common.{subst}
+use Rattle.std.proofs.Common.{◌≡◌, subst}
 use Rattle.std.proofs.lemmas.Result.{on_ok_weaker, IfErr-weaker}
 use Rattle.my_session.specs.Channel.{channel_wire}
 use Rattle.my_session.specs.Heard.{HearsDecision}
+use Rattle.my_session.specs.InStep.{state_after}
 use Rattle.my_session.specs.declared.login.Decision.{Decision}
 use Rattle.my_session.proofs.LoggingIn.{accepted, asked_to_switch, decision_halts}
+use Rattle.my_session.proofs.LoginServed.{after_switch}
 use Rattle.my_session.proofs.login.be_accepted.Goals as goal
+
+pub returns-in-Ok-Accepted-clause-served : goal.returns-in-Ok-Accepted-clause-served
+returns-in-Ok-Accepted-clause-served g c = λ start h waits.
+    subst (λ (d : Decision). (g.L.Link.served c.hear_decision.new.channel.link).state ≡ state_after start d) c.in-Ok-Accepted.field-0-is (c.in-Ok-Accepted.ensures.served start h waits)
+
+pub returns-in-Ok-Switched-clause-served : goal.returns-in-Ok-Switched-clause-served
+returns-in-Ok-Switched-clause-served g c = λ start h waits.
+    let middle = c.hear_decision.new.channel.link in
+    let there = c.in-Ok-Switched.ensures.keeps.stays.honest.0 h in
+    after_switch g.L.Link start (g.L.Link.served middle).state c.answer_switch.new.channel.link c.answer_switch.result
+    (subst (λ (d : Decision). (g.L.Link.served middle).state ≡ state_after start d) c.in-Ok-Switched.field-0-is (c.in-Ok-Switched.ensures.served start h waits))
+    (c.answer_switch.ensures.served there)
 
 pub returns-in-Ok-Accepted-clause-ok : goal.returns-in-Ok-Accepted-clause-ok
 returns-in-Ok-Accepted-clause-ok g c = λ t start user peer takes.

@@ -1,7 +1,36 @@
 use Rattle.my_session.specs.Channel.{channel_wire}
 use Rattle.my_session.proofs.LoggingIn.{set_up_done, set_up_stops}
+use Rattle.my_session.proofs.LoginServed.{set_up_served}
 use Rattle.my_session.proofs.Stepping.{still_peer}
+use Rattle.std.proofs.Common.{Ok, Err}
 use Rattle.my_session.proofs.login.log_in.Goals as goal
+
+pub be_accepted-requires-clause-decision : goal.be_accepted-requires-clause-decision
+be_accepted-requires-clause-decision g c = λ h. record {
+  start = (g.L.Link.served c.args.channel.now.link).state;
+  waits = c.in-Ok.ensures.decision h;
+}
+
+pub returns-in-Err-be_accepted-clause-served : goal.returns-in-Err-be_accepted-clause-served
+returns-in-Err-be_accepted-clause-served g c = λ serving.
+    let there = c.in-Ok.ensures.keeps.stays.honest.0 serving.honest in
+    c.in-Err-be_accepted.ensures.served (g.L.Link.served c.args.channel.now.link).state there (c.in-Ok.ensures.decision there)
+
+pub returns-in-Err-set_up-clause-served : goal.returns-in-Err-set_up-clause-served
+returns-in-Err-set_up-clause-served g c = λ serving.
+    let start = (g.L.Link.served c.args.channel.now.link).state in
+    let there = c.in-Ok.ensures.keeps.stays.honest.0 serving.honest in
+    let then_there = c.in_default.ensures.keeps.stays.honest.0 there in
+    set_up_served start (g.L.Link.served c.be_accepted.new.channel.link).state (g.L.Link.served c.set_up.new.channel.link).state (Err c.in-Err-set_up.fault)
+    (c.in_default.ensures.served start there (c.in-Ok.ensures.decision there)) (c.in-Err-set_up.ensures.served then_there)
+
+pub returns-clause-served : goal.returns-clause-served
+returns-clause-served g c = λ serving.
+    let start = (g.L.Link.served c.args.channel.now.link).state in
+    let there = c.in-Ok.ensures.keeps.stays.honest.0 serving.honest in
+    let then_there = c.in_default.ensures.keeps.stays.honest.0 there in
+    set_up_served start (g.L.Link.served c.be_accepted.new.channel.link).state (g.L.Link.served c.set_up.new.channel.link).state (Ok (tt {0}))
+    (c.in_default.ensures.served start there (c.in-Ok.ensures.decision there)) (c.in_default-set_up.ensures.served then_there)
 
 pub returns-in-Err-be_accepted-clause-err : goal.returns-in-Err-be_accepted-clause-err
 returns-in-Err-be_accepted-clause-err g c = λ t.

@@ -26,13 +26,13 @@ returns-then-wants-eq0-clause-err g c =
 pub returns-in-Err-clause-err : goal.returns-in-Err-clause-err
 returns-in-Err-clause-err g c =
     let is = c.in-Err.ensures in
-    fetched_none g.L.Link c.args.link.now c.pieces.link c.args.frames.now c.pieces.frames c.args.taken.now c.pieces.taken c.pieces.invariant.gathers c.requires.reader.limit c.pieces.invariant.within c.in-Err.fault c.wants-wants.result c.fetch.new.frames.id c.fetch.new.taken c.fetch.new.link (omega arith) c.wants-wants.ensures is.stays.sent is.err
+    fetched_none g.L.Link c.args.link.now c.pieces.link c.args.frames.now c.pieces.frames c.args.taken.now c.pieces.taken c.pieces.invariant.gathers c.requires.reader.limit c.pieces.invariant.within c.in-Err.fault c.wants-wants.result c.fetch.new.frames.id c.fetch.new.taken c.fetch.new.link (omega arith) c.wants-wants.ensures is.stays.same is.err
 
 pub pieces-preserved : goal.pieces-preserved
 pieces-preserved g c =
     let is = c.in_default.ensures in
     record {
-      gathers = gathers_more g.L.Link g.met.L.Link.origins_join c.args.link.now c.pieces.link c.fetch.new.link c.args.frames.now c.pieces.frames c.fetch.new.frames c.wants-wants.result c.args.taken.now c.pieces.taken c.fetch.new.taken c.pieces.invariant.gathers (omega arith) c.wants-wants.ensures is.keeps.tells is.keeps.counted.later is.stays.sent is.keeps.stays is.ok;
+      gathers = gathers_more g.L.Link g.met.L.Link.origins_join c.args.link.now c.pieces.link c.fetch.new.link c.args.frames.now c.pieces.frames c.fetch.new.frames c.wants-wants.result c.args.taken.now c.pieces.taken c.fetch.new.taken c.pieces.invariant.gathers (omega arith) c.wants-wants.ensures is.keeps.tells is.keeps.counted.later is.stays.same.sent is.keeps.stays is.ok;
       within = is.stays.still.within;
     }
 

@@ -14,13 +14,13 @@ returns-then-wants-eq0-clause-ok g c =
 pub returns-in-Err-clause-err : goal.returns-in-Err-clause-err
 returns-in-Err-clause-err g c = λ now.
     let is = c.in-Err.ensures in
-    drained_none g.L.Link c.args.link.now c.pieces.link c.args.id c.args.taken.now c.pieces.taken c.pieces.skim c.pieces.invariant.drains c.pieces.invariant.within c.skim_piece.new.link c.in-Err.fault c.wants-wants.result c.skim_piece.new.taken now (omega arith) (c.wants-wants.ensures.wants c.args.id 67108864 c.pieces.invariant.drains.fed c.pieces.invariant.drains.skims) is.sent is.err
+    drained_none g.L.Link c.args.link.now c.pieces.link c.args.id c.args.taken.now c.pieces.taken c.pieces.skim c.pieces.invariant.drains c.pieces.invariant.within c.skim_piece.new.link c.in-Err.fault c.wants-wants.result c.skim_piece.new.taken now (omega arith) (c.wants-wants.ensures.wants c.args.id 67108864 c.pieces.invariant.drains.fed c.pieces.invariant.drains.skims) is.same is.err
 
 pub pieces-preserved : goal.pieces-preserved
 pieces-preserved g c =
     let is = c.in_default.ensures in
     record {
-      drains = drains_more g.L.Link c.args.link.now c.pieces.link c.args.id c.args.taken.now c.pieces.taken c.pieces.skim c.pieces.invariant.drains g.met.L.Link.origins_join c.skim_piece.new.link c.skim_piece.new.skim c.skim_piece.new.taken is.keeps.tells is.keeps.counted.later is.sent is.keeps.stays is.ok;
+      drains = drains_more g.L.Link c.args.link.now c.pieces.link c.args.id c.args.taken.now c.pieces.taken c.pieces.skim c.pieces.invariant.drains g.met.L.Link.origins_join c.skim_piece.new.link c.skim_piece.new.skim c.skim_piece.new.taken is.keeps.tells is.keeps.counted.later is.same.sent is.keeps.stays is.ok;
       within = is.still.within;
     }
 

@@ -1,5 +1,5 @@
 use Rattle.std.proofs.Common.{◌≤◌, ◌-◌, ◌^◌}
-use Rattle.my_session.specs.Channel.{link_at}
+use Rattle.my_session.specs.Session.{link_at}
 use Rattle.my_session.specs.Receiving.{Drains, skimmer_at}
 use Rattle.my_session.proofs.receiving.skim_message.Given as goal
 

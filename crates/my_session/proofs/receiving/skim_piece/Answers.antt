@@ -19,7 +19,7 @@ returns-in-Err-BadSequence-clause-err g c =
       found = c.in-Err-BadSequence.field-0-0;
       wanted = c.in-Err-BadSequence.field-0-1;
       spoils = subst (Spoils g.L.Link (skimmer_at c.args.link.now c.args.skim.now c.args.taken.now) c.recv.new.self) c.in-Err-BadSequence.field-0-is
-          (spoils_piece g.L.Link c.args.link.now c.recv.new.self _ c.args.skim.now c.feed.new.self c.in-Err-BadSequence.field-0 c.args.taken.now c.in-Ok.count c.recv.new.buffer _ c.in-Ok.ensures.received c.in-Err-BadSequence.ensures (grind (arith, common_steps)) (grind (arith, common_steps)));
+          (spoils_piece g.L.Link c.args.link.now c.recv.new.self _ c.args.skim.now c.feed.new.self c.in-Err-BadSequence.field-0 c.args.taken.now c.in-Ok.count c.recv.new.buffer _ c.in-Ok.ensures.received c.in-Ok.ensures.served c.in-Err-BadSequence.ensures (grind (arith, common_steps)) (grind (arith, common_steps)));
     }
 
 pub returns-in-Err-TooLong-clause-err : goal.returns-in-Err-TooLong-clause-err
@@ -27,4 +27,4 @@ returns-in-Err-TooLong-clause-err g c =
     let fits = c.in-Ok.ensures.within.fits in
     let room = c.room-room.ensures.within in
     subst (Spoils g.L.Link (skimmer_at c.args.link.now c.args.skim.now c.args.taken.now) c.recv.new.self) c.in-Err-TooLong.field-0-is
-    (spoils_piece g.L.Link c.args.link.now c.recv.new.self _ c.args.skim.now c.feed.new.self c.in-Err-TooLong.field-0 c.args.taken.now c.in-Ok.count c.recv.new.buffer _ c.in-Ok.ensures.received c.in-Err-TooLong.ensures (grind (arith, common_steps)) (grind (arith, common_steps)))
+    (spoils_piece g.L.Link c.args.link.now c.recv.new.self _ c.args.skim.now c.feed.new.self c.in-Err-TooLong.field-0 c.args.taken.now c.in-Ok.count c.recv.new.buffer _ c.in-Ok.ensures.received c.in-Ok.ensures.served c.in-Err-TooLong.ensures (grind (arith, common_steps)) (grind (arith, common_steps)))

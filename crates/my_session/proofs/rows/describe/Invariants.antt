@@ -1,7 +1,8 @@
 use Rattle.std.proofs.Common.{◌≡◌, ◌≤◌, ◌↔◌, false}
 use Rattle.wire_forms.specs.Reading.{columns_counted}
 use Rattle.my_session.specs.Channel.{channel_wire}
-use Rattle.my_session.specs.InStep.{IsOpen}
+use Rattle.my_session.specs.InStep.{IsOpen, reached_on}
+use Rattle.my_session.proofs.Coming.{PassesSome}
 use Rattle.my_session.specs.Serving.{Stays}
 use Rattle.my_session.specs.Statements.{IsDescribed}
 use Rattle.my_session.specs.Wire.{Wire, Takes}
@@ -17,6 +18,7 @@ invariant-definitions g l = record {
   ends : l.reader.ends ≡ l.fn.ends;
   columns : l.reader.columns ≡ l.columns;
   awaited : l.reader.awaited ≡ l.left;
+  passed : g.L.Link.honest l.fn.channel.link → PassesSome g.L.Link l.fn.ends l.columns l.left (reached_on g.L.Link (columns_counted l.fn.ends l.columns) l.fn.channel) (reached_on g.L.Link l.reader l.channel);
   described : (start : Wire) → g.L.Link.tells l.fn.channel.link → Takes (λ steps. IsDescribed l.query steps (columns_counted l.fn.ends l.columns)) start (channel_wire g.L.Link l.fn.channel) → Takes (λ steps. IsDescribed l.query steps l.reader) start (channel_wire g.L.Link l.channel);
 }
 

@@ -15,7 +15,7 @@ returns-in-Ok-Some-Columns-clause-counted g c =
       reader = reads.reader;
       rest = record {
         alive = here.ensures.alive;
-        rest = count_heard g.L.Link c.args.channel.now.link c.hear_reply.new.channel.link c.args.channel.now.id c.hear_reply.new.channel.id c.hear_reply.ensures.keeps.stays c.requires.awaits.waits here.field-0 here.ensures.delivers c.args.reader.now.ends c.requires.server here.columns is reads.columns.0;
+        rest = count_heard g.L.Link c.args.channel.now.link c.hear_reply.new.channel.link c.args.channel.now.id c.hear_reply.new.channel.id c.hear_reply.ensures.keeps.stays c.requires.awaits.waits here.field-0 here.ensures.served c.args.reader.now.ends c.requires.server here.columns is reads.columns.0;
       };
     }
 
@@ -27,6 +27,6 @@ returns-in-Ok-Some-Refused-clause-fault g c =
       rest = λ goes_on. record {
         alive = here.ensures.alive;
         quiet =
-            count_refused g.L.Link c.args.channel.now.link c.hear_reply.new.channel.link c.args.channel.now.id c.hear_reply.new.channel.id c.hear_reply.ensures.keeps.stays c.requires.awaits.waits here.field-0 here.ensures.delivers here.refusal (here.field-0-is ∙ ap (λ (r : Reply). Some r) here.field-0-0-is);
+            count_refused g.L.Link c.args.channel.now.link c.hear_reply.new.channel.link c.args.channel.now.id c.hear_reply.new.channel.id c.hear_reply.ensures.keeps.stays c.requires.awaits.waits here.field-0 here.ensures.served here.refusal (here.field-0-is ∙ ap (λ (r : Reply). Some r) here.field-0-0-is);
       };
     }

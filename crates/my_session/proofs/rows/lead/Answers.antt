@@ -8,8 +8,8 @@ use Rattle.my_session.proofs.rows.lead.Goals as goal
 
 pub run_on-requires-clause-may : goal.run_on-requires-clause-may
 run_on-requires-clause-may g c = record {
-  text = search rules;
-  no_create = λ h sole. makes_nothing (Use c.of.result) tt (λ e. cc);
+  run = record { text = search rules; no_create = λ h sole. makes_nothing (Use c.of.result) tt (λ e. cc) };
+  beside = λ h. tt;
 }
 
 pub returns-in-Some-clause-ok : goal.returns-in-Some-clause-ok
