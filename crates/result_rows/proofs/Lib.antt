@@ -1,3 +1,4 @@
 pub mod Fronts
 pub mod ResultSets
 pub mod Walks
+pub mod Turns

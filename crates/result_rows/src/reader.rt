@@ -4,13 +4,13 @@ ghost use Rattle.wire_forms.specs.Reply.{reply_of};
 ghost use Rattle.wire_forms.specs.Reading.{idle, columns_counted, awaited_count, is_before_rows, end_limit, is_in_ends_place, is_end_packet, row_of, further_of, reading_after};
 ghost use Rattle.wire_forms.specs.Row.{cells_of};
 ghost use Rattle.result_rows.specs.RowCells.{row_cells};
-ghost use Rattle.result_rows.specs.Turns.{AnswersFirst, IsTurn};
+ghost use Rattle.result_rows.specs.Turns.{AnswersFirst, IsTurn, step_of};
 
 use crate::fields::{
     FULL_SIZE, column_count, is_definition, is_ending_ok, is_eof_packet, is_ok_packet,
 };
-use crate::refusal::refusal_read;
-use crate::row::Row;
+use crate::refusal::{is_refusal, refusal_read};
+use crate::row::{Row, are_cells};
 use my_packets::Message;
 use std::marker::Model;
 use thiserror::Error;
@@ -27,6 +27,21 @@ pub enum Turn<'a> {
     End,
     /// An ERR in place of a row, which ends the result set.
     Refused(Refusal),
+}
+
+/// What a further message of a result set is, without what it holds.
+#[derive(Clone, Copy, Debug, PartialEq, Eq)]
+pub enum Step {
+    /// A column definition, or the EOF after the definitions.
+    Definition,
+    /// A row.
+    Row,
+    /// The EOF or the OK after the rows.
+    End,
+    /// An ERR in place of a row, which ends the result set.
+    Refused,
+    /// None of those that may follow.
+    Garbled,
 }
 
 /// Why a message can't be read.
@@ -107,15 +122,36 @@ impl RowReader {
         0 < self.columns
     }
 
-    /// Reads a further message of a result set. The condition is that one is pending
+    /// Reads a further message of a result set, and says what it is. The condition is that one is pending
     /// ([`RowReader::is_pending`]). Before the rows it is a column definition, or the EOF after the
     /// definitions where result sets end by EOF packets. In a row's place a message that begins with
     /// 0xfe is the end: where result sets end by EOF packets if it has fewer than 9 bytes, and else if
     /// it has fewer than 16,777,215; one that begins with 0xff is an ERR, and any other one a row.
     /// `Garbled` exactly where it is none of those that may follow, and then the reader stays as it
-    /// was. After `End` and `Refused` nothing is pending. Takes no memory. (MySQL source documentation,
+    /// was. After `End` and `Refused` nothing is pending. [`RowReader::found_row`] hands out a row that
+    /// was found, and [`refusal_read`] what an ERR says. Takes no memory. (MySQL source documentation,
     /// `ProtocolText::Resultset`, `OK_Packet`.)
     #[inline]
+    pub fn step(&mut self, payload: &[u8]) -> Step
+        requires pending { 0 < self.old.columns }
+
+        ensures step { result ≡ step_of (further_of self.old payload.now) }
+        ensures after { self.new ≡ reading_after self.old (further_of self.old payload.now) }
+    {
+        if self.awaited == 0 {
+            return self.step_in_rows(payload);
+        }
+        if !is_before_rows(self.ends, self.awaited, payload) {
+            return Step::Garbled;
+        }
+        self.awaited -= 1;
+        Step::Definition
+    }
+
+    /// Reads a further message of a result set, and hands out what it holds. What it is, and the
+    /// condition, are those of [`RowReader::step`]: `Garbled` exactly where that answers it. Takes no
+    /// memory.
+    #[tactic(auto, using(crate::proofs::Turns::refusal_found))]
     pub fn more<'a>(&mut self, message: Message<'a>) -> Result<Turn<'a>, ReplyFault>
         requires pending { 0 < self.old.columns }
 
@@ -124,18 +160,20 @@ impl RowReader {
         ensures after { self.new ≡
             reading_after self.old (further_of self.old message.entry.payload.now) }
     {
-        if self.awaited == 0 {
-            return self.row(message);
+        match self.step(message.payload) {
+            Step::Definition => Ok(Turn::Definition),
+            Step::Row => Ok(Turn::Row(self.found_row(message))),
+            Step::End => Ok(Turn::End),
+            Step::Refused => match refusal_read(message.payload) {
+                Some(refusal) => Ok(Turn::Refused(refusal)),
+                None => Err(ReplyFault::Garbled),
+            },
+            Step::Garbled => Err(ReplyFault::Garbled),
         }
-        if !is_before_rows(self.ends, self.awaited, message.payload) {
-            return Err(ReplyFault::Garbled);
-        }
-        self.awaited -= 1;
-        Ok(Turn::Definition)
     }
 
-    /// The row that a message is, where [`RowReader::more`] has found it to be one, for a caller that
-    /// can't keep that answer. Nothing of it is read again. Takes no memory.
+    /// The row that a message is, where [`RowReader::step`] has found it to be one. Nothing of it is
+    /// read again. Takes no memory.
     #[inline]
     pub fn found_row<'a>(&self, message: Message<'a>) -> Row<'a>
         requires { IsSome (cells_of self.now.columns message.payload.now) }
@@ -149,32 +187,35 @@ impl RowReader {
 
     // Reads a message in a row's place.
     #[inline]
-    fn row<'a>(&mut self, message: Message<'a>) -> Result<Turn<'a>, ReplyFault>
-        ensures turn { IsTurn message.entry.place result
-            (row_of self.old.ends self.old.columns message.entry.payload.now) }
-        ensures after { self.new ≡ reading_after self.old
-            (row_of self.old.ends self.old.columns message.entry.payload.now) }
+    fn step_in_rows(&mut self, payload: &[u8]) -> Step
+        ensures step { result ≡
+            step_of (row_of self.old.ends self.old.columns payload.now) }
+        ensures after { self.new ≡
+            reading_after self.old (row_of self.old.ends self.old.columns payload.now) }
     {
-        if is_in_ends_place(self.ends, message.payload) {
-            if !is_end_packet(self.ends, message.payload) {
-                return Err(ReplyFault::Garbled);
+        if is_in_ends_place(self.ends, payload) {
+            if !is_end_packet(self.ends, payload) {
+                return Step::Garbled;
             }
             *self = RowReader::new(self.ends);
-            return Ok(Turn::End);
+            return Step::End;
         }
-        match message.payload {
-            [0xff, ..] => match refusal_read(message.payload) {
-                Some(refusal) => {
-                    *self = RowReader::new(self.ends);
-                    Ok(Turn::Refused(refusal))
+        match payload {
+            [0xff, ..] => {
+                if !is_refusal(payload) {
+                    return Step::Garbled;
                 }
-                None => Err(ReplyFault::Garbled),
-            },
-            [] => Err(ReplyFault::Garbled),
-            payload => match Row::read(self.columns, payload, message.place) {
-                Some(row) => Ok(Turn::Row(row)),
-                None => Err(ReplyFault::Garbled),
-            },
+                *self = RowReader::new(self.ends);
+                Step::Refused
+            }
+            [] => Step::Garbled,
+            cells => {
+                if are_cells(self.columns, cells) {
+                    Step::Row
+                } else {
+                    Step::Garbled
+                }
+            }
         }
     }
 }

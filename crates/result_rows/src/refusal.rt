@@ -1,5 +1,5 @@
 //! ERR packets.
-ghost use Rattle.std.specs.Prelude.{◌≡◌};
+ghost use Rattle.std.specs.Prelude.{◌≡◌, is_some};
 ghost use Rattle.wire_forms.specs.Reply.{refusal_of, refusal_of_code};
 
 use wire_forms::{Refusal, ShortText};
@@ -35,4 +35,13 @@ fn said(code: u16, bytes: &[u8]) -> Option<Refusal>
             message: ShortText::of(message),
         }),
     }
+}
+
+// Whether this is an ERR packet. (Apart, so that a caller's path of rows has no room for a refusal.)
+#[cold]
+#[inline(never)]
+pub(crate) fn is_refusal(payload: &[u8]) -> bool
+    ensures { result ≡ is_some (refusal_of payload.now) }
+{
+    refusal_read(payload).is_some()
 }

@@ -18,22 +18,6 @@ pub struct Row<'a> {
 impl<'a> Row<'a> {
     ghost use Rattle.result_rows.specs.RowCells.{row_cells};
 
-    // Reads a row of so many columns, of the message that began at this place.
-    #[inline]
-    pub(crate) fn read(columns: u32, payload: &'a [u8], place: u64) -> Option<Row<'a>>
-        ensures { MatchOption result (cells_of columns payload.now ≡ None) (λ row.
-            (cells_of columns payload.now ≡ Some (row_cells row)) × (row.place ≡ place)) }
-    {
-        if !are_cells(columns, payload) {
-            return None;
-        }
-        Some(Row {
-            payload,
-            columns,
-            place,
-        })
-    }
-
     // The row that so many bytes are, where they are known to be one: nothing is read.
     #[inline]
     pub(crate) fn known(columns: u32, payload: &'a [u8], place: u64) -> Row<'a>
@@ -146,7 +130,7 @@ fn cell_of(bytes: &[u8]) -> Option<(Option<&[u8]>, &[u8])>
 // Whether the bytes are so many cells and nothing after them.
 #[inline]
 #[tactic(auto, using(crate::proofs::Walks::cells_of_next, crate::proofs::Walks::are_cells_next))]
-fn are_cells(columns: u32, payload: &[u8]) -> bool
+pub(crate) fn are_cells(columns: u32, payload: &[u8]) -> bool
     ensures { result ≡ is_some (cells_of columns payload.now) }
 {
     let mut rest = payload;
