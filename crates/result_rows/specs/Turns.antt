@@ -7,8 +7,8 @@ use Rattle.wire_forms.specs.declared.reply.Reply.{Reply}
 use Rattle.wire_forms.specs.declared.reply.Reply.TheVariants.{Done, Refused, Columns}
 use Rattle.result_rows.specs.declared.reader.ReplyFault.{ReplyFault}
 use Rattle.result_rows.specs.declared.reader.ReplyFault.TheVariants.{Garbled, LocalInfile}
-use Rattle.result_rows.specs.declared.reader.Step.{Step}
-use Rattle.result_rows.specs.declared.reader.Step.TheVariants.{Definition as StepDefinition, Row as StepRow, End as StepEnd, Refused as StepRefused, Garbled as StepGarbled}
+use Rattle.result_rows.specs.declared.reader.TurnKind.{TurnKind}
+use Rattle.result_rows.specs.declared.reader.TurnKind.TheVariants.{Definition as DefinitionKind, Row as RowKind, End as EndKind, Refused as RefusedKind, Garbled as GarbledKind}
 use Rattle.result_rows.specs.declared.reader.Turn.{Turn}
 use Rattle.result_rows.specs.declared.reader.Turn.TheVariants.{Definition, Row, End, Refused as TurnRefused}
 
@@ -27,12 +27,12 @@ AnswersFirst ends payload (Some (Columns count)) result new =
     (result ≡ Ok (Columns count)) × (new ≡ columns_counted ends count)
 
 -- what a further message is, without what it holds
-abbrev pub step_of : Further → Step
-step_of definition = StepDefinition
-step_of (row cells) = StepRow
-step_of end = StepEnd
-step_of (refused refusal) = StepRefused
-step_of garbled = StepGarbled
+abbrev pub turn_kind : Further → TurnKind
+turn_kind definition = DefinitionKind
+turn_kind (row cells) = RowKind
+turn_kind end = EndKind
+turn_kind (refused refusal) = RefusedKind
+turn_kind garbled = GarbledKind
 
 -- the answer to a further message, which began at this place of the stream
 abbrev pub IsTurn : ℕ → Result Turn ReplyFault → Further → Type 0

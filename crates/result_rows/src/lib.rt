@@ -10,7 +10,7 @@ mod row;
 
 pub use fields::is_ok_packet;
 pub use laws::{a_front_tells_a_reply, a_whole_result_set_is_what_the_reader_takes};
-pub use reader::{ReplyFault, RowReader, Step, Turn};
+pub use reader::{ReplyFault, RowReader, Turn, TurnKind};
 pub use refusal::refusal_read;
 pub use row::{Cells, Row};
 pub use wire_forms::{Ends, Refusal, Reply, ShortText};

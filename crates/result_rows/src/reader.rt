@@ -4,7 +4,7 @@ ghost use Rattle.wire_forms.specs.Reply.{reply_of};
 ghost use Rattle.wire_forms.specs.Reading.{idle, columns_counted, awaited_count, is_before_rows, end_limit, is_in_ends_place, is_end_packet, row_of, further_of, reading_after};
 ghost use Rattle.wire_forms.specs.Row.{cells_of};
 ghost use Rattle.result_rows.specs.RowCells.{row_cells};
-ghost use Rattle.result_rows.specs.Turns.{AnswersFirst, IsTurn, step_of};
+ghost use Rattle.result_rows.specs.Turns.{AnswersFirst, IsTurn, turn_kind};
 
 use crate::fields::{
     FULL_SIZE, column_count, is_definition, is_ending_ok, is_eof_packet, is_ok_packet,
@@ -31,7 +31,7 @@ pub enum Turn<'a> {
 
 /// What a further message of a result set is, without what it holds.
 #[derive(Clone, Copy, Debug, PartialEq, Eq)]
-pub enum Step {
+pub enum TurnKind {
     /// A column definition, or the EOF after the definitions.
     Definition,
     /// A row.
@@ -132,20 +132,20 @@ impl RowReader {
     /// was found, and [`refusal_read`] what an ERR says. Takes no memory. (MySQL source documentation,
     /// `ProtocolText::Resultset`, `OK_Packet`.)
     #[inline]
-    pub fn step(&mut self, payload: &[u8]) -> Step
+    pub fn step(&mut self, payload: &[u8]) -> TurnKind
         requires pending { 0 < self.old.columns }
 
-        ensures step { result ≡ step_of (further_of self.old payload.now) }
+        ensures step { result ≡ turn_kind (further_of self.old payload.now) }
         ensures after { self.new ≡ reading_after self.old (further_of self.old payload.now) }
     {
         if self.awaited == 0 {
             return self.step_in_rows(payload);
         }
         if !is_before_rows(self.ends, self.awaited, payload) {
-            return Step::Garbled;
+            return TurnKind::Garbled;
         }
         self.awaited -= 1;
-        Step::Definition
+        TurnKind::Definition
     }
 
     /// Reads a further message of a result set, and hands out what it holds. What it is, and the
@@ -161,14 +161,14 @@ impl RowReader {
             reading_after self.old (further_of self.old message.entry.payload.now) }
     {
         match self.step(message.payload) {
-            Step::Definition => Ok(Turn::Definition),
-            Step::Row => Ok(Turn::Row(self.found_row(message))),
-            Step::End => Ok(Turn::End),
-            Step::Refused => match refusal_read(message.payload) {
+            TurnKind::Definition => Ok(Turn::Definition),
+            TurnKind::Row => Ok(Turn::Row(self.found_row(message))),
+            TurnKind::End => Ok(Turn::End),
+            TurnKind::Refused => match refusal_read(message.payload) {
                 Some(refusal) => Ok(Turn::Refused(refusal)),
                 None => Err(ReplyFault::Garbled),
             },
-            Step::Garbled => Err(ReplyFault::Garbled),
+            TurnKind::Garbled => Err(ReplyFault::Garbled),
         }
     }
 
@@ -187,33 +187,33 @@ impl RowReader {
 
     // Reads a message in a row's place.
     #[inline]
-    fn step_in_rows(&mut self, payload: &[u8]) -> Step
+    fn step_in_rows(&mut self, payload: &[u8]) -> TurnKind
         ensures step { result ≡
-            step_of (row_of self.old.ends self.old.columns payload.now) }
+            turn_kind (row_of self.old.ends self.old.columns payload.now) }
         ensures after { self.new ≡
             reading_after self.old (row_of self.old.ends self.old.columns payload.now) }
     {
         if is_in_ends_place(self.ends, payload) {
             if !is_end_packet(self.ends, payload) {
-                return Step::Garbled;
+                return TurnKind::Garbled;
             }
             *self = RowReader::new(self.ends);
-            return Step::End;
+            return TurnKind::End;
         }
         match payload {
             [0xff, ..] => {
                 if !is_refusal(payload) {
-                    return Step::Garbled;
+                    return TurnKind::Garbled;
                 }
                 *self = RowReader::new(self.ends);
-                Step::Refused
+                TurnKind::Refused
             }
-            [] => Step::Garbled,
+            [] => TurnKind::Garbled,
             cells => {
                 if are_cells(self.columns, cells) {
-                    Step::Row
+                    TurnKind::Row
                 } else {
-                    Step::Garbled
+                    TurnKind::Garbled
                 }
             }
         }
