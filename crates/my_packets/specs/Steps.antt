@@ -14,6 +14,7 @@ pub record Passes (old new : Unread) : Type 0 where
   pub place : new.place ≡ old.place + 4 * packet_count (length new.message) + length new.message
   pub id : new.id ≡ id_after (packet_count (length new.message)) old.id
   pub limit : new.limit ≡ old.limit
+  pub room : new.room ≡ old.room
 
 -- the bytes are less than a message
 pub record Waits (old new : Unread) : Type 0 where

@@ -6,6 +6,7 @@ ghost use Rattle.my_packets.specs.Begins.{HasFront, BeginsPacket};
 ghost use Rattle.my_packets.specs.Front.{Wants};
 ghost use Rattle.my_packets.specs.Joins.{JoinsAt, ClosesAt};
 ghost use Rattle.wire_forms.specs.Packet.{packet_count};
+ghost use Rattle.my_packets.specs.Unread.{room_left};
 ghost use Rattle.my_packets.specs.Steps.{Steps, Shows, HandsOut};
 
 use crate::frame::FULL_SIZE;
@@ -17,8 +18,8 @@ use thiserror::Error;
 // Bytes that were handed out are given up once there are so many of them, and as many as are unread.
 const KEPT: usize = 65536;
 
-// [`Frames::shrink`] leaves room for at most so many bytes where none is unread: 1 MiB.
-const ROOM_KEPT: usize = 1_048_576;
+// [`Frames::shrink`] leaves room for at most so many bytes where none is unread: half a MiB.
+const ROOM_KEPT: usize = 524_288;
 
 /// Why the bytes of a stream hold no further message.
 #[derive(Clone, Copy, Debug, PartialEq, Eq, Error)]
@@ -66,12 +67,12 @@ pub struct Frames {
 }
 
 impl Model for Frames {
-    ghost use Rattle.std.specs.Prelude.{◌+◌, ◌-◌, ◌^◌, ◌≤◌, drop, slice_range, vec_len};
+    ghost use Rattle.std.specs.Prelude.{◌+◌, ◌-◌, ◌^◌, ◌≤◌, drop, slice_range, vec_len, vec_capacity};
     ghost use Rattle.my_packets.specs.Unread.{Unread};
 
     ghost Value = { Unread };
 
-    ghost view = { λ f. record { message = slice_range f.store.items f.start f.end; began = f.began; bytes = drop f.from f.store.items; place = f.place; id = f.id; limit = f.limit } };
+    ghost view = { λ f. record { message = slice_range f.store.items f.start f.end; began = f.began; bytes = drop f.from f.store.items; place = f.place; id = f.id; limit = f.limit; room = vec_capacity f.store } };
 
     ghost invariant = { λ f. (f.start ≤ f.end) × (f.end ≤ f.from) × (f.from ≤ vec_len f.store) × (f.place + (vec_len f.store - f.from) ≤ 2 ^ 62) };
 }
@@ -177,7 +178,9 @@ fn shrink_store(store: &mut Vec<u8>, from: usize) -> usize
     ensures place { result ≤ vec_len store.new }
     ensures bytes { drop result store.new.items ≡ drop from store.old.items }
     ensures size { vec_len store.new - result ≡ vec_len store.old - from }
-    ensures room { from ≡ vec_len store.old → vec_capacity store.new ≤ ROOM_KEPT }
+    ensures room { vec_capacity store.new ≡
+        room_left (drop from store.old.items) (vec_capacity store.old) }
+    ensures most { drop from store.old.items ≡ [] → vec_capacity store.new ≤ 524288 }
 {
     if from < store.len() {
         return from;
@@ -195,6 +198,7 @@ fn join(store: &mut Vec<u8>, from: usize, size: usize)
     requires in_store { from + size + 4 * packet_count size ≤ vec_len store.old }
 
     ensures length { vec_len store.new ≡ vec_len store.old }
+    ensures room { vec_capacity store.new ≡ vec_capacity store.old }
     ensures joined { JoinsAt from size store.old.items store.new.items }
 {
     if FULL_SIZE <= size {
@@ -209,6 +213,7 @@ fn close_gaps(store: &mut Vec<u8>, end: usize, size: usize)
     requires in_store { end + size + 4 * packet_count size ≤ vec_len store.old }
 
     ensures length { vec_len store.new ≡ vec_len store.old }
+    ensures room { vec_capacity store.new ≡ vec_capacity store.old }
     ensures joined { ClosesAt end size store.old.items store.new.items }
 {
     let mut to = end;
@@ -230,7 +235,7 @@ impl Frames {
     /// most `limit` bytes, in all of its packets. Takes no memory.
     pub fn new(alloc: Global, limit: u32) -> Frames
         ensures { result ≡
-            record { message = []; began = 0; bytes = []; place = 0; id = 0; limit = limit } }
+            record { message = []; began = 0; bytes = []; place = 0; id = 0; limit = limit; room = 0 } }
     {
         Frames {
             store: Vec::new(alloc),
@@ -257,9 +262,13 @@ impl Frames {
     pub fn feed(&mut self, piece: &[u8]) -> Result<(), OutOfMemory>
         requires in_all { self.old.place + length self.old.bytes + length piece.now ≤ 2 ^ 62 }
 
-        ensures ok { OnOk result
-            (self.new ≡ record self.old { message = []; bytes = self.old.bytes ++ piece.now }) }
-        ensures err { OnErr result (self.new ≡ record self.old { message = [] }) }
+        ensures ok { OnOk result (self.new ≡ record self.old {
+          message = [];
+          bytes = self.old.bytes ++ piece.now;
+          room = self.new.room;
+        }) }
+        ensures err { OnErr result
+            (self.new ≡ record self.old { message = []; room = self.new.room }) }
     {
         let unread = self.store.len() - self.from;
         if unread == 0 || (KEPT <= self.from && unread <= self.from) {
@@ -273,11 +282,14 @@ impl Frames {
     }
 
     /// Lets go of the memory for received bytes where none of them is unread and there is room for more
-    /// than 1 MiB (1,048,576 bytes). The payload read last is forgotten, whether or not memory was let
-    /// go; its place and all else stay. Takes no memory. (What is seen of a `Frames` doesn't tell its
-    /// room, so no clause here speaks of it.)
+    /// than 524,288; then there is room for at most so many. The payload read last is forgotten, whether
+    /// or not memory was let go; its place and all else stay. Takes no memory.
     pub fn shrink(&mut self)
-        ensures { self.new ≡ record self.old { message = [] } }
+        ensures left { self.new ≡ record self.old {
+          message = [];
+          room = room_left self.old.bytes self.old.room;
+        } }
+        ensures most { self.old.bytes ≡ [] → self.new.room ≤ 524288 }
     {
         self.from = shrink_store(&mut self.store, self.from);
         self.start = self.from;

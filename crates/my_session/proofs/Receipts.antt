@@ -47,7 +47,7 @@ settled_waits_not old new false wants is waits = settled_is_no_part old.limit ol
 module _ {L : Type 0} (of : Ghosts L) where
   -- a piece that was taken off a link
   pub fetches_piece : (old new : L) (E : Type 0) (wants : ℕ) (before now : Unread) (taken count : ℕ) (buffer rest : List ℕ) → (of.tells old → ReceivesAsTold {E = E} (of.told old) buffer (Ok count) (of.told new)) → (of.honest old → TakesServed {E = E} (of.served old) buffer (Ok count) (of.served new))
-      → now ≡ record before { message = []; bytes = before.bytes ++ take count (buffer ++ rest) } → 0 < count → count ≤ length buffer → length buffer ≤ wants
+      → now ≡ record before { message = []; bytes = before.bytes ++ take count (buffer ++ rest); room = now.room } → 0 < count → count ≤ length buffer → length buffer ≤ wants
       → Fetches of wants (reader_at old before taken) (reader_at new now (taken + count))
   fetches_piece old new E wants before now taken count buffer rest received served now_is some fits few =
       let is : take count (buffer ++ rest) ≡ take count buffer = take-append-le count buffer rest fits in

@@ -67,7 +67,12 @@ pub record Fetches {L : Type 0} (of : Ghosts L) (wants : ℕ) (old new : Reader 
   pub piece : List ℕ
   pub some : 0 < length piece
   pub fits : length piece ≤ wants
-  pub frames : new.frames ≡ record old.frames { message = []; bytes = old.frames.bytes ++ piece }
+  pub frames : new.frames
+      ≡ record old.frames {
+        message = [];
+        bytes = old.frames.bytes ++ piece;
+        room = new.frames.room;
+      }
   pub taken : new.taken ≡ old.taken + length piece
   pub stream : of.tells old.link → stream (of.told old.link) ≡ piece ++ stream (of.told new.link)
   pub was_alive : of.honest old.link → (of.served old.link).failed ≡ false

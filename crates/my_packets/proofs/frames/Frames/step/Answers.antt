@@ -27,4 +27,5 @@ returns-in-Whole c =
       place = let size_is = stood.size_is in omega arith;
       id = let size_is = stood.size_is in omega arith;
       limit = refl;
+      room = c.join.ensures.room;
     }
