@@ -3,18 +3,16 @@ use Rattle.std.proofs.Common.{◌≡◌, ◌<◌, ◌+◌, ◌-◌, ◌==◌, �
 use Rattle.std.specs.Prelude.{IfErr}
 use Rattle.std.proofs.lemmas.Bool.{ne_eqb}
 use Rattle.std.proofs.lemmas.List.{map-append}
-use Rattle.wire_forms.specs.Reading.{Reading, Further, definition, row, garbled, awaited_count, columns_counted, further_of, reading_after, definition_if, end_if, refused_if, row_if, row_of, is_before_rows, is_in_ends_place, is_end_packet}
+use Rattle.wire_forms.specs.Reading.{Reading, Further, definition, end, garbled, idle, awaited_count, columns_counted, further_of, reading_after, definition_if, end_if, refused_if, row_if, row_of, is_before_rows, is_in_ends_place, is_end_packet}
 use Rattle.wire_forms.specs.Reply.{refusal_of}
 use Rattle.wire_forms.specs.declared.ends.Ends.{Ends}
 use Rattle.plain_data.specs.Cell.{Cell}
 use Rattle.wire_forms.specs.Row.{cells_of}
 use Rattle.wire_forms.specs.ResultSet.{turns_of}
 use Rattle.wire_forms.specs.declared.refusal.Refusal.{Refusal}
-use Rattle.result_rows.specs.RowCells.{row_cells}
-use Rattle.result_rows.specs.Turns.{IsTurn}
-use Rattle.result_rows.specs.declared.row.Row.{Row}
-use Rattle.result_rows.specs.declared.reader.Turn.{Turn}
-use Rattle.result_rows.specs.declared.reader.Turn.TheVariants.{Definition as IsDefinition, Row as IsRow}
+use Rattle.result_rows.specs.Turns.{turn_kind}
+use Rattle.result_rows.specs.declared.reader.TurnKind.TheVariants.{Definition as DefinitionKind, Row as RowKind, End as EndKind, Refused as RefusedKind, Garbled as GarbledKind}
+use Rattle.result_rows.proofs.Turns.{step_tells, row_told, refusal_told}
 use Rattle.wire_forms.specs.declared.reply.Reply.TheVariants.{Columns}
 use Rattle.statement_forms.specs.Form.{query_form}
 use Rattle.statement_forms.specs.Text.{query_text}
@@ -22,15 +20,17 @@ use Rattle.statement_forms.specs.declared.command.Command.TheVariants.{Use}
 use Rattle.statement_forms.specs.declared.form.Form.{Form}
 use Rattle.statement_forms.specs.declared.query.Query.{Query}
 use Rattle.my_session.proofs.Running.{leads_on, leads_said, leads_heard}
-use Rattle.my_session.specs.Awaited.{Awaited, count, further}
+use Rattle.my_session.specs.Awaited.{Awaited, count, further, further_fault}
 use Rattle.my_session.specs.Halt.{Halts, Unsaid, Stops, at_message, at_payload}
 use Rattle.my_session.specs.Heard.{HearsReply, HearsDefinition, IsRowOf}
 use Rattle.my_session.specs.Lead.{lead_of}
+use Rattle.my_session.specs.Stop.{refusal_fault}
 use Rattle.my_session.specs.Session.{Runs, rows_awaited}
 use Rattle.honest_server.specs.Exchange.{query_payload}
 use Rattle.my_session.specs.Statements.{IsRun, RunAwaits, RunSends, IsLedBy, LeadAwaitsBy, LeadSendsBy, IsLed, LeadAwaits, LeadSends, IsAsked, IsDescribed, QueryAwaits, a_lead, a_count, a_definition, QuerySends, the_lead, the_query}
 use Rattle.my_session.specs.Wire.{Wire, Step, commands, hears, ends, Takes, Sent}
 use Rattle.my_session.specs.declared.fault.SessionFault.{SessionFault}
+use Rattle.my_session.specs.declared.fault.SessionFault.TheVariants.{Garbled}
 
 -- ---- the lead
 
@@ -155,14 +155,6 @@ lead_stops ending query old new fault (at_payload sends leads unsaid) = at_paylo
 -- ---- the rows
 
 -- what the tests of a message in the place of a row tell
-row_by : (ends refuses eof : Bool) (refusal : Option Refusal) (found : Option (List Cell)) (cells : List Cell) → (if ends then end_if eof else (if refuses then refused_if refusal else row_if found)) ≡ row cells → found ≡ Some cells
-row_by true refuses true refusal found cells is = absurd (cc)
-row_by true refuses false refusal found cells is = absurd (cc)
-row_by false true eof None found cells is = absurd (cc)
-row_by false true eof (Some refusal) found cells is = absurd (cc)
-row_by false false eof refusal None cells is = absurd (cc)
-row_by false false eof refusal (Some found) cells is = cc
-
 definition_by : (ends refuses eof : Bool) (refusal : Option Refusal) (found : Option (List Cell)) → (if ends then end_if eof else (if refuses then refused_if refusal else row_if found)) ≡ definition → ⊥
 definition_by true refuses true refusal found is = cc
 definition_by true refuses false refusal found is = cc
@@ -170,10 +162,6 @@ definition_by false true eof None found is = cc
 definition_by false true eof (Some refusal) found is = cc
 definition_by false false eof refusal None is = cc
 definition_by false false eof refusal (Some found) is = cc
-
-cells_in_place : (ending : Ends) (columns : ℕ) (message : List ℕ) (cells : List Cell) → row_of ending columns message ≡ row cells → cells_of columns message ≡ Some cells
-cells_in_place ending columns [] cells is = absurd (cc)
-cells_in_place ending columns (byte ∷ bytes) cells is = row_by (is_in_ends_place ending (byte ∷ bytes)) (byte == 255) (is_end_packet ending (byte ∷ bytes)) (refusal_of (byte ∷ bytes)) (cells_of columns (byte ∷ bytes)) cells is
 
 row_no_definition : (ending : Ends) (columns : ℕ) (message : List ℕ) → row_of ending columns message ≡ definition → ⊥
 row_no_definition ending columns [] is = cc
@@ -183,24 +171,35 @@ row_no_definition ending columns (byte ∷ bytes) is = definition_by (is_in_ends
 in_place : (reading : Reading) (message : List ℕ) → reading.awaited ≡ 0 → further_of reading message ≡ row_of reading.ends reading.columns message
 in_place reading message none = ap (λ (n : ℕ). further_of (record { columns = reading.columns; awaited = n; ends = reading.ends }) message) none
 
-is_row_of : (reading : Reading) (message : List ℕ) (cells : List Cell) → reading.awaited ≡ 0 → further_of reading message ≡ row cells → IsRowOf reading message
-is_row_of reading message cells none is = record {
-  cells = cells;
-  cells_are = cells_in_place reading.ends reading.columns message cells (sym (in_place reading message none) ∙ is);
-  is = is;
-}
+-- a row that a step has found
+pub judged_row : (reading now : Reading) (message : List ℕ) → RowKind ≡ turn_kind (further_of reading message) → now ≡ reading_after reading (further_of reading message) → IsRowOf reading message × (now ≡ reading)
+judged_row reading now message is after =
+    let told = row_told reading message is in
+    (record { cells = told.cells; cells_are = told.cells_are; is = told.is }, after ∙ ap (λ (f : Further). reading_after reading f) told.is)
 
-pub judged_row : (reading now : Reading) (message : List ℕ) (place : ℕ) (turn : Turn) (found : Row) → reading.awaited ≡ 0 → turn ≡ IsRow found → IsTurn place (Ok turn) (further_of reading message) → now ≡ reading_after reading (further_of reading message) → IsRowOf reading message × (now ≡ reading)
-judged_row reading now message place turn found none is told after =
-    let said : IsTurn place (Ok (IsRow found)) (further_of reading message) = subst (λ (t : Turn). IsTurn place (Ok t) (further_of reading message)) is told in
-    (is_row_of reading message (row_cells found) none said.0, after ∙ ap (λ (f : Further). reading_after reading f) said.0)
+-- the end
+pub judged_end : (reading now : Reading) (message : List ℕ) → EndKind ≡ turn_kind (further_of reading message) → now ≡ reading_after reading (further_of reading message) → (further_of reading message ≡ end) × (now ≡ idle reading.ends)
+judged_end reading now message is after =
+    let told : further_of reading message ≡ end = step_tells reading message EndKind is in
+    (told, after ∙ ap (λ (f : Further). reading_after reading f) told)
+
+-- an ERR
+pub judged_refusal : (form : Form) (reading now : Reading) (message : List ℕ) (place : ℕ) → RefusedKind ≡ turn_kind (further_of reading message) → now ≡ reading_after reading (further_of reading message) → (further_fault form place (further_of reading message) ≡ Some (refusal_fault form place (refusal_of message))) × (now ≡ idle reading.ends)
+judged_refusal form reading now message place is after =
+    let told = refusal_told reading message is in
+    (ap (λ (f : Further). further_fault form place f) told.is ∙ ap (λ (r : Option Refusal). Some (refusal_fault form place r)) (sym told.refusal_is), after ∙ ap (λ (f : Further). reading_after reading f) told.is)
 
 pub rows_no_definition : (reading : Reading) (message : List ℕ) → reading.awaited ≡ 0 → further_of reading message ≡ definition → ⊥
 rows_no_definition reading message none is = row_no_definition reading.ends reading.columns message (sym (in_place reading message none) ∙ is)
 
-pub judged_definition : (reading : Reading) (message : List ℕ) (place : ℕ) (turn : Turn) → reading.awaited ≡ 0 → turn ≡ IsDefinition → IsTurn place (Ok turn) (further_of reading message) → ⊥
-judged_definition reading message place turn none is told =
-    rows_no_definition reading message none (subst (λ (t : Turn). IsTurn place (Ok t) (further_of reading message)) is told)
+-- none of them
+pub judged_garbled : (form : Form) (reading : Reading) (message : List ℕ) (place : ℕ) → GarbledKind ≡ turn_kind (further_of reading message) → further_fault form place (further_of reading message) ≡ Some (Garbled place)
+judged_garbled form reading message place is =
+    let told : further_of reading message ≡ garbled = step_tells reading message GarbledKind is in
+    ap (λ (f : Further). further_fault form place f) told
+
+pub judged_definition : (reading : Reading) (message : List ℕ) → reading.awaited ≡ 0 → DefinitionKind ≡ turn_kind (further_of reading message) → ⊥
+judged_definition reading message none is = rows_no_definition reading message none (step_tells reading message DefinitionKind is)
 
 -- all messages before the rows were read
 pub at_rows : (reading : Reading) (ending : Ends) (columns : ℕ) → reading.ends ≡ ending → reading.columns ≡ columns → reading.awaited ≡ 0 → reading ≡ rows_awaited ending columns

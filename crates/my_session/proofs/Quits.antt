@@ -10,6 +10,8 @@ use Rattle.my_session.proofs.Payloads.{one_payload}
 use Rattle.my_session.proofs.Sending.{short_is_sent}
 use Rattle.my_session.specs.Channel.{IsOfLink, SendsNone, SendsPackets, outgoing}
 use Rattle.my_session.specs.Served.{ClosesServed, quits as is_closed, unsent, LeavesUnsaid}
+use Rattle.my_session.specs.Fault.{session_fault, session_result}
+use Rattle.my_session.specs.declared.fault.ChannelFault.{ChannelFault}
 use Rattle.my_session.specs.declared.fault.SessionFault.{SessionFault}
 
 -- COM_QUIT as it is sent
@@ -51,7 +53,7 @@ broken_closes old new here breaks = elim breaks.left [
 
 -- the link of an open session is over after it, or as it was
 module _ {L : Type 0} (of : Ghosts L) (old new : L) where
-  pub closes_served : (result : Result (Unit {0}) SessionFault) → of.honest old → (of.served old).failed ≡ false → (of.served old).state.phase ≡ in_session → OnOk result (SendsPackets of (outgoing quit None) old new) → IfErr result (SendsNone of IsOfLink (outgoing quit None) old new) → ClosesServed (of.served old).state (of.served new).state
+  pub closes_served : (result : Result (Unit {0}) ChannelFault) → of.honest old → (of.served old).failed ≡ false → (of.served old).state.phase ≡ in_session → OnOk result (SendsPackets of (outgoing quit None) old new) → IfErr (session_result result) (SendsNone of IsOfLink (outgoing quit None) old new) → ClosesServed (of.served old).state (of.served new).state
   closes_served (Ok sent) h alive here sends none =
       let exchanged = sends.answered h in
       is_closed (exchanged_closes (of.served old).state exchanged.reply (of.served new).state here exchanged.exchanges)

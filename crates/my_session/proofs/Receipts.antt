@@ -143,14 +143,14 @@ module _ {L : Type 0} (of : Ghosts L) where
         let same : length frames.bytes ≡ length (packets frames.id new.message) = ap (λ (l : List ℕ). length l) bytes_are in
         omega arith
 
-    pub gathered_place : (result : Result (Unit {0}) SessionFault) (new : Unread) → OnOk result (Passes frames new) → OnErr result (new ≡ frames) → first.place ≤ taken_first → new.place ≤ taken
-    gathered_place (Ok done) new passes same below =
+    pub gathered_place : (E : Type 0) (result : Result (Unit {0}) E) (new : Unread) → OnOk result (Passes frames new) → OnErr result (new ≡ frames) → first.place ≤ taken_first → new.place ≤ taken
+    gathered_place E (Ok done) new passes same below =
         let size = whole_size new passes in
         let place = passes.place in
         let at = gathers.place in
         let all = gathers.taken in
         omega arith
-    gathered_place (Err fault) new passes same below =
+    gathered_place E (Err fault) new passes same below =
         let place : new.place ≡ frames.place = ap (λ (u : Unread). u.place) same in
         let at = gathers.place in
         let all = gathers.taken in
@@ -195,9 +195,9 @@ module _ {L : Type 0} (of : Ghosts L) where
       heard = gathered_hears new passes;
     }
 
-    pub gathered_reader : (result : Result (Unit {0}) SessionFault) (new : Unread) → OnOk result (Passes frames new) → OnErr result (new ≡ frames) → IsReader first taken_first → IsReader new taken
-    gathered_reader (Ok done) new passes same before = record { limit = passes.limit ∙ gathers.limit ∙ before.limit; place = gathered_place (Ok done) new passes same before.place; within = inside }
-    gathered_reader (Err fault) new passes same before = record { limit = ap (λ (u : Unread). u.limit) same ∙ gathers.limit ∙ before.limit; place = gathered_place (Err fault) new passes same before.place; within = inside }
+    pub gathered_reader : (E : Type 0) (result : Result (Unit {0}) E) (new : Unread) → OnOk result (Passes frames new) → OnErr result (new ≡ frames) → IsReader first taken_first → IsReader new taken
+    gathered_reader E (Ok done) new passes same before = record { limit = passes.limit ∙ gathers.limit ∙ before.limit; place = gathered_place E (Ok done) new passes same before.place; within = inside }
+    gathered_reader E (Err fault) new passes same before = record { limit = ap (λ (u : Unread). u.limit) same ∙ gathers.limit ∙ before.limit; place = gathered_place E (Err fault) new passes same before.place; within = inside }
 
     wrong_here : (fault : FrameFault) → IsWrong frames.limit frames.id frames.bytes fault → of.tells start → IsWrong 67108864 first.id (within (wire_at of (link_at start taken_first first.id))) fault
     wrong_here fault wrong t =

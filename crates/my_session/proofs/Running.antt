@@ -8,10 +8,7 @@ use Rattle.statement_forms.specs.declared.form.Form.{Form}
 use Rattle.my_session.specs.Awaited.{done}
 use Rattle.my_session.specs.Halt.{Halts, Unsaid, Stops, at_message, at_payload}
 use Rattle.my_session.specs.Heard.{HearsReply}
-use Rattle.link_traits.specs.declared.link.Link.{Ghosts}
-use Rattle.my_session.specs.Channel.{ChannelView}
-use Rattle.my_session.specs.InStep.{AwaitsReply, ReplyWaits}
-use Rattle.my_session.specs.Session.{Runs, failed_by}
+use Rattle.my_session.specs.Session.{Runs}
 use Rattle.my_session.specs.Statements.{IsRun, RunAwaits, an_ok, RunSends, command_payload}
 use Rattle.my_session.specs.Wire.{Wire, Hears, Step, commands, answers, hears, Leads, ends, after_command, after_answer, after_message, Takes, Sent, after_sent}
 use Rattle.my_session.specs.declared.fault.SessionFault.{SessionFault}
@@ -41,11 +38,6 @@ ok_where Q (Err fault) so = tt
 pub err_where : {P : Type 0} (Q : SessionFault → Type 0) (result : Result (Unit {0}) SessionFault) → (P → IfErr result Q) → IfErr result (λ fault. P → Q fault)
 err_where Q (Ok finished) so = tt
 err_where Q (Err fault) so = so
-
--- a reply can be heard where the statement was sent
-pub awaits_where : {L : Type 0} (of : Ghosts L) (channel : ChannelView L) (result : Result (Unit {0}) SessionFault) → channel.has_failed ≡ failed_by result → OnOk result (of.honest channel.link → ReplyWaits of channel.link channel.id) → OnOk result (AwaitsReply of channel)
-awaits_where of channel (Ok finished) alive waits = record { alive = alive; waits = waits }
-awaits_where of channel (Err fault) alive waits = tt
 
 module _ (command : Command) (old new : Wire) where
   pub run_unwritten : (fault : SessionFault) → fault ≡ OutOfMemory → Stops (RunAwaits command) (RunSends command) old fault old

@@ -14,6 +14,9 @@ use Rattle.my_session.specs.Channel.{ChannelView, IsOfLink, MaySayPayload, MaySe
 use Rattle.my_session.specs.Wire.{Wire}
 use Rattle.my_session.specs.Served.{IsSeenBy, LeavesUnsaid}
 use Rattle.my_session.specs.Serving.{MakesNoObject, MaySay, Replied, way_of}
+use Rattle.my_session.specs.Fault.{session_fault, session_result}
+use Rattle.my_session.specs.declared.fault.ChannelFault.{ChannelFault}
+use Rattle.my_session.specs.declared.fault.ChannelFault.TheVariants.{OutOfMemory as ChannelOutOfMemory}
 use Rattle.my_session.specs.declared.fault.SessionFault.{SessionFault}
 use Rattle.my_session.specs.declared.fault.SessionFault.TheVariants.{Link, OutOfMemory}
 
@@ -108,7 +111,7 @@ module _ {L : Type 0} (of : Ghosts L) (holder : Option L) (old new : ChannelView
     };
   }
 
-  pub short_says : (result : Result (Unit {0}) SessionFault) → id < 256 → length payload ≤ 1001 → bytes ≡ packet id payload → next ≡ (id + 1) % 256 → new.place ≡ old.place → OnOk result (new.id ≡ next) → OnOk result (SendsPackets of (outgoing bytes holder) old.link new.link) → OnOk result (Says of id (outgoing payload holder) old new)
+  pub short_says : {E : Type 0} (result : Result (Unit {0}) E) → id < 256 → length payload ≤ 1001 → bytes ≡ packet id payload → next ≡ (id + 1) % 256 → new.place ≡ old.place → OnOk result (new.id ≡ next) → OnOk result (SendsPackets of (outgoing bytes holder) old.link new.link) → OnOk result (Says of id (outgoing payload holder) old new)
   short_says (Ok sent) byte short is next_is place_is id_is sends = says (omega arith) (is ∙ sym (short_is_sent id payload byte short)) place_is (id_is ∙ next_is ∙ (omega arith)) sends
   short_says (Err fault) byte short is next_is place_is id_is sends = tt
 
@@ -131,9 +134,13 @@ module _ {L : Type 0} (of : Ghosts L) (holder : Option L) (old new : ChannelView
   says_none_at fault none = none_said fault none
 
 module _ {L : Type 0} (of : Ghosts L) (out : Outgoing L) (old new : L) where
-  pub takes_none : (result : Result (Unit {0}) SessionFault) → IfErr result (SendsNone of IsOfLink out old new) → result ≡ Err OutOfMemory → ⊥
+  pub takes_none : (result : Result (Unit {0}) ChannelFault) → IfErr (session_result result) (SendsNone of IsOfLink out old new) → result ≡ Err ChannelOutOfMemory → ⊥
   takes_none (Ok finished) none is = absurd (cc)
-  takes_none (Err fault) none is = let kind : fault ≡ Link = none.kind in absurd (cc)
+  takes_none (Err fault) none is =
+      let same : fault ≡ ChannelOutOfMemory = cc in
+      let kind : session_fault fault ≡ Link = none.kind in
+      let linked : OutOfMemory ≡ Link = sym (ap (λ (f : ChannelFault). session_fault f) same) ∙ kind in
+      absurd (cc)
 
 -- packets of a payload that may be said may be sent
 module _ {L : Type 0} (of : Ghosts L) (holder : Option L) (link : L) (id : ℕ) (payload bytes : List ℕ) where

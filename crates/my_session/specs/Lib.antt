@@ -1,6 +1,8 @@
 pub mod Wire
 pub mod Awaited
 pub mod Halt
+pub mod Fault
+pub mod Stop
 pub mod Statements
 pub mod Peer
 pub mod Login

@@ -3,10 +3,11 @@ ghost use Rattle.std.specs.Prelude.{◌≡◌, ◌≤◌, ◌<◌, ◌+◌, [], 
 ghost use Rattle.wire_forms.specs.Packet.{packet};
 ghost use Rattle.my_session.specs.Channel.{ChannelView, link_of, outgoing, packets_within, IsOfLink};
 ghost use Rattle.my_session.specs.Channel.{MaySayPayload, MaySendPackets, SendsPackets, SendsNone, Says, SaysNone, HearsNext, SkimsNext, HearsNone};
+ghost use Rattle.my_session.specs.Fault.{session_result};
 ghost use Rattle.my_session.specs.Serving.{IsServing, KeepsLink, MessageWaits};
 ghost use Rattle.my_session.specs.Session.{failed_by};
 
-use crate::fault::SessionFault;
+use crate::fault::ChannelFault;
 use crate::limits::{MESSAGE_LIMIT, PIECE, SHORT_PAYLOAD};
 use crate::receiving::{receive, skim_message};
 use crate::sender::{Plainly, Sender};
@@ -120,18 +121,18 @@ impl<L: Link> Channel<L> {
         packets: &[u8],
         next_id: u8,
         sender: &S,
-    ) -> Result<(), SessionFault>
+    ) -> Result<(), ChannelFault>
         requires alive { self.old.has_failed ≡ false }
         requires may { MaySendPackets L.Link (outgoing packets.now (S.holder sender.now))
             self.old.link }
 
-        ensures keeps { KeepsLink L.Link self.old.link self.new.link result }
-        ensures failed { self.new.has_failed ≡ failed_by result }
+        ensures keeps { KeepsLink L.Link self.old.link self.new.link (session_result result) }
+        ensures failed { self.new.has_failed ≡ failed_by (session_result result) }
         ensures place { self.new.place ≡ self.old.place }
         ensures id { OnOk result (self.new.id ≡ next_id) }
         ensures ok { OnOk result (SendsPackets L.Link
             (outgoing packets.now (S.holder sender.now)) self.old.link self.new.link) }
-        ensures err { IfErr result (SendsNone L.Link IsOfLink
+        ensures err { IfErr (session_result result) (SendsNone L.Link IsOfLink
             (outgoing packets.now (S.holder sender.now)) self.old.link self.new.link) }
     {
         match sender.send(&mut self.link, packets) {
@@ -153,18 +154,18 @@ impl<L: Link> Channel<L> {
         id: u8,
         payload: &[u8],
         sender: &S,
-    ) -> Result<(), SessionFault>
+    ) -> Result<(), ChannelFault>
         requires alive { self.old.has_failed ≡ false }
         requires short { length payload.now ≤ SHORT_PAYLOAD }
         requires may { MaySayPayload L.Link id
             (outgoing payload.now (S.holder sender.now)) self.old.link }
 
-        ensures keeps { KeepsLink L.Link self.old.link self.new.link result }
-        ensures failed { self.new.has_failed ≡ failed_by result }
+        ensures keeps { KeepsLink L.Link self.old.link self.new.link (session_result result) }
+        ensures failed { self.new.has_failed ≡ failed_by (session_result result) }
         ensures ok { OnOk result (Says L.Link id
             (outgoing payload.now (S.holder sender.now)) self.old self.new) }
-        ensures memory { result ≡ Err SessionFault.OutOfMemory → ⊥ }
-        ensures err { IfErr result (SaysNone L.Link id
+        ensures memory { result ≡ Err ChannelFault.OutOfMemory → ⊥ }
+        ensures err { IfErr (session_result result) (SaysNone L.Link id
             (outgoing payload.now (S.holder sender.now)) self.old self.new) }
     {
         let mut packet = [0; SHORT_PACKET];
@@ -183,18 +184,18 @@ impl<L: Link> Channel<L> {
         id: u8,
         payload: &[u8],
         sender: &S,
-    ) -> Result<(), SessionFault>
+    ) -> Result<(), ChannelFault>
         requires alive { self.old.has_failed ≡ false }
         requires may { MaySayPayload L.Link id
             (outgoing payload.now (S.holder sender.now)) self.old.link }
 
-        ensures keeps { KeepsLink L.Link self.old.link self.new.link result }
-        ensures failed { self.new.has_failed ≡ failed_by result }
+        ensures keeps { KeepsLink L.Link self.old.link self.new.link (session_result result) }
+        ensures failed { self.new.has_failed ≡ failed_by (session_result result) }
         ensures ok { OnOk result (Says L.Link id
             (outgoing payload.now (S.holder sender.now)) self.old self.new) }
         ensures memory { length payload.now ≤ SHORT_PAYLOAD →
-            result ≡ Err SessionFault.OutOfMemory → ⊥ }
-        ensures err { IfErr result (SaysNone L.Link id
+            result ≡ Err ChannelFault.OutOfMemory → ⊥ }
+        ensures err { IfErr (session_result result) (SaysNone L.Link id
             (outgoing payload.now (S.holder sender.now)) self.old self.new) }
     {
         if payload.len() <= SHORT_PAYLOAD {
@@ -202,22 +203,22 @@ impl<L: Link> Channel<L> {
         }
         if payload.len() > MESSAGE_LIMIT as usize {
             self.has_failed = true;
-            return Err(SessionFault::TooLong(payload.len() as u64));
+            return Err(ChannelFault::TooLong(payload.len() as u64));
         }
         self.say_long(id, payload, sender)
     }
 
     /// Sends a further payload of the same exchange, with the ids after those of the message that was
     /// heard last. Refusals, memory and conditions are those of [`Channel::say`].
-    pub fn answer(&mut self, payload: &[u8]) -> Result<(), SessionFault>
+    pub fn answer(&mut self, payload: &[u8]) -> Result<(), ChannelFault>
         requires alive { self.old.has_failed ≡ false }
         requires may { MaySayPayload L.Link self.old.id (outgoing payload.now None) self.old.link }
 
-        ensures keeps { KeepsLink L.Link self.old.link self.new.link result }
-        ensures failed { self.new.has_failed ≡ failed_by result }
+        ensures keeps { KeepsLink L.Link self.old.link self.new.link (session_result result) }
+        ensures failed { self.new.has_failed ≡ failed_by (session_result result) }
         ensures ok { OnOk result
             (Says L.Link self.old.id (outgoing payload.now None) self.old self.new) }
-        ensures err { IfErr result
+        ensures err { IfErr (session_result result)
             (SaysNone L.Link self.old.id (outgoing payload.now None) self.old self.new) }
     {
         let id = self.id;
@@ -230,23 +231,23 @@ impl<L: Link> Channel<L> {
         id: u8,
         payload: &[u8],
         sender: &S,
-    ) -> Result<(), SessionFault>
+    ) -> Result<(), ChannelFault>
         requires alive { self.old.has_failed ≡ false }
         requires within { length payload.now ≤ MESSAGE_LIMIT }
         requires may { MaySayPayload L.Link id
             (outgoing payload.now (S.holder sender.now)) self.old.link }
 
-        ensures keeps { KeepsLink L.Link self.old.link self.new.link result }
-        ensures failed { self.new.has_failed ≡ failed_by result }
+        ensures keeps { KeepsLink L.Link self.old.link self.new.link (session_result result) }
+        ensures failed { self.new.has_failed ≡ failed_by (session_result result) }
         ensures ok { OnOk result (Says L.Link id
             (outgoing payload.now (S.holder sender.now)) self.old self.new) }
-        ensures err { IfErr result (SaysNone L.Link id
+        ensures err { IfErr (session_result result) (SaysNone L.Link id
             (outgoing payload.now (S.holder sender.now)) self.old self.new) }
     {
         self.packets.clear();
         let Ok(next_id) = frame_into(payload, id, &mut self.packets) else {
             self.has_failed = true;
-            return Err(SessionFault::OutOfMemory);
+            return Err(ChannelFault::OutOfMemory);
         };
         match sender.send(&mut self.link, &self.packets) {
             Ok(()) => {
@@ -264,17 +265,17 @@ impl<L: Link> Channel<L> {
     /// sequence id, `TooLong` where the message has more than 67,108,864 bytes, `StreamTooLong` where
     /// 2^62 bytes were heard before it ended, `OutOfMemory` and `Link` as their names say. The channel
     /// mustn't have failed, and on an honest link that hasn't failed a whole message must wait.
-    pub fn hear(&mut self) -> Result<(), SessionFault>
+    pub fn hear(&mut self) -> Result<(), ChannelFault>
         requires alive { self.old.has_failed ≡ false }
         requires waits { IsServing L.Link self.old.link →
             MessageWaits self.old.id (L.served self.old.link).waiting }
 
-        ensures keeps { KeepsLink L.Link self.old.link self.new.link result }
-        ensures failed { self.new.has_failed ≡ failed_by result }
+        ensures keeps { KeepsLink L.Link self.old.link self.new.link (session_result result) }
+        ensures failed { self.new.has_failed ≡ failed_by (session_result result) }
         ensures began { OnOk result (self.new.began ≡ self.old.place) }
         ensures ok { OnOk result
             (HearsNext L.Link self.new.message (link_of self.old) (link_of self.new)) }
-        ensures err { IfErr result (HearsNone L.Link (link_of self.old) (link_of self.new)) }
+        ensures err { IfErr (session_result result) (HearsNone L.Link (link_of self.old) (link_of self.new)) }
     {
         self.frames.start(self.id);
         self.began = self.taken;
@@ -297,17 +298,17 @@ impl<L: Link> Channel<L> {
 
     /// Hears the next message and keeps its first 1,024 bytes. Takes no memory. Refusals and conditions
     /// are those of [`Channel::hear`], without `OutOfMemory`.
-    pub fn skim(&mut self) -> Result<Skim, SessionFault>
+    pub fn skim(&mut self) -> Result<Skim, ChannelFault>
         requires alive { self.old.has_failed ≡ false }
         requires waits { IsServing L.Link self.old.link →
             MessageWaits self.old.id (L.served self.old.link).waiting }
 
-        ensures keeps { KeepsLink L.Link self.old.link self.new.link result }
-        ensures failed { self.new.has_failed ≡ failed_by result }
-        ensures memory { result ≡ Err SessionFault.OutOfMemory → ⊥ }
+        ensures keeps { KeepsLink L.Link self.old.link self.new.link (session_result result) }
+        ensures failed { self.new.has_failed ≡ failed_by (session_result result) }
+        ensures memory { result ≡ Err ChannelFault.OutOfMemory → ⊥ }
         ensures ok { IfOk result
             (λ skim. SkimsNext L.Link skim (link_of self.old) (link_of self.new)) }
-        ensures err { IfErr result (HearsNone L.Link (link_of self.old) (link_of self.new)) }
+        ensures err { IfErr (session_result result) (HearsNone L.Link (link_of self.old) (link_of self.new)) }
     {
         let began = self.taken;
         match skim_message(&mut self.link, self.id, &mut self.piece, &mut self.taken) {
@@ -350,10 +351,10 @@ impl<L: Link> Sender<L> for Channel<L> {
     ghost holder = { λ channel. Some channel.link };
 
     #[tactic(auto, using(crate::proofs::Sending::stream_answered))]
-    fn send(&self, link: &mut L, packets: &[u8]) -> Result<(), SessionFault> {
+    fn send(&self, link: &mut L, packets: &[u8]) -> Result<(), ChannelFault> {
         match link.send_beside(&self.link, packets) {
             Ok(()) => Ok(()),
-            Err(_) => Err(SessionFault::Link),
+            Err(_) => Err(ChannelFault::Link),
         }
     }
 }

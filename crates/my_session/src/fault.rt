@@ -35,6 +35,36 @@ pub enum SessionFault {
     OutOfMemory,
 }
 
+/// Why a payload wasn't sent, or no message came: the faults of [`SessionFault`] of the same names. It is
+/// small, since a call that hears a row may answer it.
+#[derive(Clone, Copy)]
+pub enum ChannelFault {
+    Link,
+    Garbled(u64),
+    TooLong(u64),
+    StreamTooLong,
+    OutOfMemory,
+}
+
+impl ChannelFault {
+    ghost use Rattle.my_session.specs.Fault.{session_fault};
+
+    /// What a session answers where its channel answers this. Takes no memory.
+    #[cold]
+    #[inline(never)]
+    pub fn session_fault(self) -> SessionFault
+        ensures { result ≡ session_fault self }
+    {
+        match self {
+            ChannelFault::Link => SessionFault::Link,
+            ChannelFault::Garbled(place) => SessionFault::Garbled(place),
+            ChannelFault::TooLong(size) => SessionFault::TooLong(size),
+            ChannelFault::StreamTooLong => SessionFault::StreamTooLong,
+            ChannelFault::OutOfMemory => SessionFault::OutOfMemory,
+        }
+    }
+}
+
 impl SessionFault {
     ghost use Rattle.my_session.specs.Session.{ends_session};
 

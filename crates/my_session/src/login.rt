@@ -103,7 +103,7 @@ fn hear_greeting<L: Link>(channel: &mut Channel<L>) -> Result<Greeting, SessionF
 {
     let place = channel.place();
     if let Err(fault) = channel.hear() {
-        return Err(fault);
+        return Err(fault.session_fault());
     }
     match Greeting::read(channel.message().payload) {
         Ok(greeting) => Ok(greeting),
@@ -135,7 +135,10 @@ fn respond<L: Link>(
     if response_into(user, answer, ends, &mut out).is_err() {
         return Err(SessionFault::OutOfMemory);
     }
-    channel.answer(&out)
+    match channel.answer(&out) {
+        Ok(()) => Ok(()),
+        Err(fault) => Err(fault.session_fault()),
+    }
 }
 
 // Hears the greeting and answers it, and answers what it says of its server.
@@ -219,7 +222,7 @@ fn hear_decision<L: Link>(channel: &mut Channel<L>) -> Result<Decision, SessionF
 {
     let place = channel.place();
     if let Err(fault) = channel.hear() {
-        return Err(fault);
+        return Err(fault.session_fault());
     }
     read_decision(place, channel.message().payload)
 }
@@ -268,9 +271,13 @@ fn send_answer<L: Link>(
     ensures err { IfErr result (SaysNone L.Link channel.old.id
         (outgoing (switch_answer (option_copied answer.entry)) None) channel.old channel.new) }
 {
-    match answer {
-        Some(bytes) => channel.answer(bytes),
-        None => channel.answer(&[]),
+    let bytes: &[u8] = match answer {
+        Some(bytes) => bytes,
+        None => &[],
+    };
+    match channel.answer(bytes) {
+        Ok(()) => Ok(()),
+        Err(fault) => Err(fault.session_fault()),
     }
 }
 

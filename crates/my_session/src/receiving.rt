@@ -6,10 +6,11 @@ ghost use Rattle.my_packets.specs.Steps.{Passes};
 ghost use Rattle.my_session.specs.Channel.{HearsNext, HearsNone, SkimsTo};
 ghost use Rattle.my_session.specs.Receiving.{Fetches, IsReader, IsStillWithin, MayTake, SkimsPiece, StaysReader, reader_at, skimmer_at};
 ghost use Rattle.my_session.specs.Receiving.{SaysNothing, Unfetched, Unsettled, Unskimmed};
+ghost use Rattle.my_session.specs.Fault.{session_result};
 ghost use Rattle.my_session.specs.Serving.{IsServing, KeepsLink, MessageWaits};
 ghost use Rattle.my_session.specs.Session.{link_at};
 
-use crate::fault::SessionFault;
+use crate::fault::ChannelFault;
 use crate::limits::{MESSAGE_LIMIT, PIECE, SESSION_LIMIT};
 use link_traits::Link;
 use my_packets::{FrameFault, Frames, Skim};
@@ -35,46 +36,46 @@ fn fetch<L: Link>(
     piece: &mut [u8; PIECE],
     taken: &mut u64,
     wants: u32,
-) -> Result<(), SessionFault>
+) -> Result<(), ChannelFault>
     requires wants { 0 < wants }
     requires may { MayTake L.Link link.old taken.old }
     requires place { frames.old.place + length frames.old.bytes ≤ taken.old }
 
-    ensures keeps { KeepsLink L.Link link.old link.new result }
+    ensures keeps { KeepsLink L.Link link.old link.new (session_result result) }
     ensures stays { StaysReader L.Link (reader_at link.old frames.old taken.old)
         (reader_at link.new frames.new taken.new) }
     ensures ok { OnOk result (Fetches L.Link wants (reader_at link.old frames.old taken.old)
         (reader_at link.new frames.new taken.new)) }
-    ensures err { IfErr result (Unfetched taken.old) }
+    ensures err { IfErr (session_result result) (Unfetched taken.old) }
 {
     let room = room(wants, *taken);
     if room == 0 {
-        return Err(SessionFault::StreamTooLong);
+        return Err(ChannelFault::StreamTooLong);
     }
     let count = match link.recv(&mut piece[..room]) {
         Ok(count) => count,
-        Err(_) => return Err(SessionFault::Link),
+        Err(_) => return Err(ChannelFault::Link),
     };
     if frames.feed(&piece[..count]).is_err() {
-        return Err(SessionFault::OutOfMemory);
+        return Err(ChannelFault::OutOfMemory);
     }
     *taken += count as u64;
     Ok(())
 }
 
 // Reads the message that the bytes hold, or finds what is wrong with them.
-fn settle(frames: &mut Frames, began: u64) -> Result<(), SessionFault>
+fn settle(frames: &mut Frames, began: u64) -> Result<(), ChannelFault>
     requires settled { Wants frames.old.limit frames.old.id frames.old.bytes 0 }
 
     ensures ok { OnOk result (Passes frames.old frames.new) }
-    ensures err { IfErr result (Unsettled frames.old began) }
+    ensures err { IfErr (session_result result) (Unsettled frames.old began) }
     ensures same { OnErr result (frames.new ≡ frames.old) }
 {
     match frames.step() {
         Ok(true) => Ok(()),
         Ok(false) => unreachable!(),
-        Err(FrameFault::BadSequence(_, _)) => Err(SessionFault::Garbled(began)),
-        Err(FrameFault::TooLong(size)) => Err(SessionFault::TooLong(size)),
+        Err(FrameFault::BadSequence(_, _)) => Err(ChannelFault::Garbled(began)),
+        Err(FrameFault::TooLong(size)) => Err(ChannelFault::TooLong(size)),
     }
 }
 
@@ -86,18 +87,18 @@ pub(crate) fn receive<L: Link>(
     frames: &mut Frames,
     piece: &mut [u8; PIECE],
     taken: &mut u64,
-) -> Result<(), SessionFault>
+) -> Result<(), ChannelFault>
     requires empty { frames.old.bytes ≡ [] }
     requires reader { IsReader frames.old taken.old }
     requires waits { IsServing L.Link link.old →
         MessageWaits frames.old.id (L.served link.old).waiting }
 
-    ensures keeps { KeepsLink L.Link link.old link.new result }
+    ensures keeps { KeepsLink L.Link link.old link.new (session_result result) }
     ensures reader { IsReader frames.new taken.new }
     ensures empty { OnOk result (frames.new.bytes ≡ []) }
     ensures ok { OnOk result (HearsNext L.Link frames.new.message
         (link_at link.old taken.old frames.old.id) (link_at link.new taken.new frames.new.id)) }
-    ensures err { IfErr result (HearsNone L.Link (link_at link.old taken.old frames.old.id)
+    ensures err { IfErr (session_result result) (HearsNone L.Link (link_at link.old taken.old frames.old.id)
         (link_at link.new taken.new frames.new.id)) }
 {
     let began = *taken;
@@ -120,32 +121,32 @@ fn skim_piece<L: Link>(
     taken: &mut u64,
     wants: u32,
     began: u64,
-) -> Result<(), SessionFault>
+) -> Result<(), ChannelFault>
     requires wants { 0 < wants }
     requires wanted { wants ≡ wanted skim.old }
     requires may { MayTake L.Link link.old taken.old }
 
-    ensures keeps { KeepsLink L.Link link.old link.new result }
+    ensures keeps { KeepsLink L.Link link.old link.new (session_result result) }
     ensures still { IsStillWithin taken.old taken.new }
     ensures same { SaysNothing L.Link link.old link.new }
     ensures ok { OnOk result (SkimsPiece L.Link (skimmer_at link.old skim.old taken.old)
         (skimmer_at link.new skim.new taken.new)) }
-    ensures err { IfErr result
+    ensures err { IfErr (session_result result)
         (Unskimmed L.Link (skimmer_at link.old skim.old taken.old) link.new began) }
 {
     let room = room(wants, *taken);
     if room == 0 {
-        return Err(SessionFault::StreamTooLong);
+        return Err(ChannelFault::StreamTooLong);
     }
     let count = match link.recv(&mut piece[..room]) {
         Ok(count) => count,
-        Err(_) => return Err(SessionFault::Link),
+        Err(_) => return Err(ChannelFault::Link),
     };
     *taken += count as u64;
     match skim.feed(&piece[..count]) {
         Ok(()) => Ok(()),
-        Err(FrameFault::BadSequence(_, _)) => Err(SessionFault::Garbled(began)),
-        Err(FrameFault::TooLong(size)) => Err(SessionFault::TooLong(size)),
+        Err(FrameFault::BadSequence(_, _)) => Err(ChannelFault::Garbled(began)),
+        Err(FrameFault::TooLong(size)) => Err(ChannelFault::TooLong(size)),
     }
 }
 
@@ -157,17 +158,17 @@ pub(crate) fn skim_message<L: Link>(
     id: u8,
     piece: &mut [u8; PIECE],
     taken: &mut u64,
-) -> Result<Skim, SessionFault>
+) -> Result<Skim, ChannelFault>
     requires within { taken.old ≤ SESSION_LIMIT }
     requires waits { IsServing L.Link link.old → MessageWaits id (L.served link.old).waiting }
 
-    ensures keeps { KeepsLink L.Link link.old link.new result }
+    ensures keeps { KeepsLink L.Link link.old link.new (session_result result) }
     ensures still { IsStillWithin taken.old taken.new }
     ensures size { OnOk result (4 ≤ taken.new - taken.old) }
-    ensures memory { result ≡ Err SessionFault.OutOfMemory → ⊥ }
+    ensures memory { result ≡ Err ChannelFault.OutOfMemory → ⊥ }
     ensures ok { IfOk result
         (λ skim. SkimsTo L.Link skim (link_at link.old taken.old id) link.new taken.new) }
-    ensures err { IfErr result (λ fault. (now : ℕ) →
+    ensures err { IfErr (session_result result) (λ fault. (now : ℕ) →
         HearsNone L.Link (link_at link.old taken.old id) (link_at link.new taken.new now) fault) }
 {
     let began = *taken;

@@ -8,6 +8,7 @@ ghost use Rattle.statement_forms.specs.Text.{query_text};
 ghost use Rattle.my_session.specs.Awaited.{count, further};
 ghost use Rattle.my_session.specs.Channel.{channel_wire, outgoing, Says, SaysNone, FaultWhereTold, WhereTold};
 ghost use Rattle.my_session.specs.Halt.{Halts};
+ghost use Rattle.my_session.specs.Stop.{refusal_fault, stop_fault, stop_result};
 ghost use Rattle.my_session.specs.Heard.{HearsReply, HearsDefinition, IsAfterRow, Judges};
 ghost use Rattle.honest_server.specs.State.{in_session};
 ghost use Rattle.my_session.specs.Asked.{AsksServed, LeadsServed};
@@ -20,7 +21,7 @@ ghost use Rattle.my_session.specs.Statements.{IsLed};
 ghost use Rattle.my_session.specs.Wire.{Hears, Takes};
 
 use crate::channel::Channel;
-use crate::fault::SessionFault;
+use crate::fault::{ChannelFault, SessionFault};
 use crate::ranges::look_at_numbers;
 use crate::reads::Reads;
 use crate::run::{hear_reply, run_on};
@@ -29,10 +30,10 @@ use crate::session::Session;
 use link_traits::Link;
 use my_packets::Message;
 use plain_data::Buffer;
-use result_rows::{Row, RowReader, Turn};
+use result_rows::{Row, RowReader, TurnKind, refusal_read};
 use sql_statements::query_into;
 use statement_forms::{Command, Form, Part, Query};
-use wire_forms::{Ends, Reply};
+use wire_forms::{Ends, Refusal, Reply};
 
 // The schema in which a query is to be asked.
 fn lead_of<'q>(query: &'q Query<'_>) -> Option<&'q [u8]>
@@ -142,7 +143,10 @@ fn send_query<L: Link>(
     if let Err(fault) = write_query(payload, query) {
         return Err(fault);
     }
-    channel.say(0, payload.as_slice(), &Plainly)
+    match channel.say(0, payload.as_slice(), &Plainly) {
+        Ok(()) => Ok(()),
+        Err(fault) => Err(fault.session_fault()),
+    }
 }
 
 // Hears the number of columns.
@@ -183,12 +187,12 @@ fn is_definition(reader: &mut RowReader, message: Message<'_>) -> bool
     ensures turn { further_of reader.old message.entry.payload.now ≡ definition_if result }
     ensures after { reader.new ≡ reading_after reader.old (definition_if result) }
 {
-    match reader.more(message) {
-        Ok(Turn::Definition) => true,
-        Ok(Turn::Row(_)) => false,
-        Ok(Turn::End) => false,
-        Ok(Turn::Refused(_)) => false,
-        Err(_) => false,
+    match reader.step(message.payload) {
+        TurnKind::Definition => true,
+        TurnKind::Row => false,
+        TurnKind::End => false,
+        TurnKind::Refused => false,
+        TurnKind::Garbled => false,
     }
 }
 
@@ -211,7 +215,7 @@ fn hear_definition<L: Link>(
 {
     let place = channel.place();
     if let Err(fault) = channel.hear() {
-        return Err(fault);
+        return Err(fault.session_fault());
     }
     if is_definition(reader, channel.message()) {
         return Ok(());
@@ -301,55 +305,84 @@ fn ask<L: Link>(
     Ok(columns)
 }
 
+// Why no row and no end came. (It is small, since each row is asked for it.)
+#[derive(Clone, Copy)]
+enum Stop {
+    // An ERR to a statement of this form came, and is the channel's message.
+    Refused(Form),
+    // The channel failed, or its message is garbled.
+    Failed(ChannelFault),
+}
+
+// What a session answers to a message that is an ERR, which began at this place.
+fn refusal_fault(form: Form, place: u64, refusal: Option<Refusal>) -> SessionFault
+    ensures { result ≡ refusal_fault form place refusal }
+{
+    match refusal {
+        Some(refusal) => SessionFault::Refused(form, refusal),
+        None => SessionFault::Garbled(place),
+    }
+}
+
+// What a session answers at a stop, where the channel's message is this one.
+#[cold]
+#[inline(never)]
+fn stop_fault(message: Message<'_>, stop: Stop) -> SessionFault
+    ensures { result ≡ stop_fault message.entry.place message.entry.payload.now stop }
+{
+    match stop {
+        Stop::Refused(form) => refusal_fault(form, message.place, refusal_read(message.payload)),
+        Stop::Failed(fault) => fault.session_fault(),
+    }
+}
+
 // Reads a message in the place of a row, and says whether it is one; else it is the end. After a
-// fault nothing is pending.
-fn judge(
-    reader: &mut RowReader,
-    ends: Ends,
-    form: Form,
-    message: Message<'_>,
-) -> Result<bool, SessionFault>
+// stop nothing is pending.
+fn judge(reader: &mut RowReader, ends: Ends, form: Form, message: Message<'_>) -> Result<bool, Stop>
     requires awaits { AwaitsRow ends reader.old }
 
-    ensures { Judges ends reader.old form message.entry.payload.now message.entry.place result
-        reader.new }
+    ensures { Judges ends reader.old form message.entry.payload.now message.entry.place
+        (stop_result message.entry.place message.entry.payload.now result) reader.new }
 {
     let place = message.place;
-    match reader.more(message) {
-        Ok(Turn::Row(_)) => Ok(true),
-        Ok(Turn::End) => Ok(false),
-        Ok(Turn::Refused(refusal)) => Err(SessionFault::Refused(form, refusal)),
-        Ok(Turn::Definition) => unreachable!(),
-        Err(_) => {
+    match reader.step(message.payload) {
+        TurnKind::Row => Ok(true),
+        TurnKind::End => Ok(false),
+        TurnKind::Refused => Err(Stop::Refused(form)),
+        TurnKind::Definition => unreachable!(),
+        TurnKind::Garbled => {
             *reader = RowReader::new(ends);
-            Err(SessionFault::Garbled(place))
+            Err(Stop::Failed(ChannelFault::Garbled(place)))
         }
     }
 }
 
 // Hears a message in the place of a row, and says whether it is one; else it is the end. After a
-// fault nothing is pending.
+// stop nothing is pending.
 fn advance<L: Link>(
     channel: &mut Channel<L>,
     reader: &mut RowReader,
     ends: Ends,
     form: Form,
-) -> Result<bool, SessionFault>
+) -> Result<bool, Stop>
     requires awaits { AwaitsRow ends reader.old }
     requires rest { AwaitsRest L.Link channel.old reader.old }
 
-    ensures keeps { KeepsLink L.Link channel.old.link channel.new.link result }
-    ensures rest { failed_by result ≡ false → AwaitsRest L.Link channel.new reader.new }
+    ensures keeps { KeepsLink L.Link channel.old.link channel.new.link
+        (stop_result channel.new.began channel.new.message result) }
+    ensures rest { failed_by (stop_result channel.new.began channel.new.message result) ≡ false →
+        AwaitsRest L.Link channel.new reader.new }
     ensures next { OnOk result (HearsFurther L.Link channel.old channel.new) }
     ensures reader { MatchResult result (λ is_row. IsAfterRow ends reader.old channel.new.message
         is_row reader.new) (λ _. reader.new ≡ idle ends) }
-    ensures err { IfErr result
+    ensures err { IfErr (stop_result channel.new.began channel.new.message result)
         (FaultWhereTold L.Link (Halts (further form reader.old)) channel.old channel.new) }
-    ensures served { ServesNext L.Link form reader.old channel.old result channel.new }
+    ensures served { ServesNext L.Link form reader.old channel.old
+        (stop_result channel.new.began channel.new.message result) channel.new }
 {
     if let Err(fault) = channel.hear() {
         *reader = RowReader::new(ends);
-        return Err(fault);
+        return Err(Stop::Failed(fault));
     }
     judge(reader, ends, form, channel.message())
 }
@@ -401,7 +434,8 @@ impl<L: Link> Reads for Session<L> {
             self.form,
         ) {
             Ok(is_row) => is_row,
-            Err(fault) => {
+            Err(stop) => {
+                let fault = stop_fault(self.channel.message(), stop);
                 self.has_failed = fault.ends_session();
                 return Err(fault);
             }

@@ -40,8 +40,10 @@ pub(crate) fn hear_reply<L: Link>(
         (λ reply. WhereTold L.Link (HearsReply reply) channel.old channel.new) }
     ensures err { IfErr result (FaultWhereTold L.Link Misheard channel.old channel.new) }
 {
-    let skim = channel.skim()?;
-    Ok(read_reply(skim.kept(), reader))
+    match channel.skim() {
+        Ok(skim) => Ok(read_reply(skim.kept(), reader)),
+        Err(fault) => Err(fault.session_fault()),
+    }
 }
 
 /// Reads a reply's first message.
@@ -127,7 +129,7 @@ pub(crate) fn run_on<L: Link, S: Sender<L>>(
         return Err(fault);
     }
     if let Err(fault) = channel.say(0, payload.as_slice(), sender) {
-        return Err(fault);
+        return Err(fault.session_fault());
     }
     hear_done(channel, command.form())
 }

@@ -1,11 +1,12 @@
 use Rattle.my_session.specs.Channel.{link_of}
+use Rattle.my_session.specs.Fault.{session_fault}
 use Rattle.my_session.proofs.LoggingIn.{decision_counted}
 use Rattle.my_session.proofs.LoginServed.{decision_heard, decision_missed, decision_served}
 use Rattle.my_session.proofs.login.hear_decision.Goals as goal
 
 pub returns-in-Err-clause-served : goal.returns-in-Err-clause-served
 returns-in-Err-clause-served g c = λ start h waits.
-    decision_missed g.L.Link start (link_of c.args.channel.now) (link_of c.hear.new.self) c.in-Err.fault waits (c.in-Err.ensures.err.served (record { honest = h; alive = waits.alive }))
+    rw c.session_fault.ensures (decision_missed g.L.Link start (link_of c.args.channel.now) (link_of c.hear.new.self) (session_fault c.in-Err.fault) waits (c.in-Err.ensures.err.served (record { honest = h; alive = waits.alive })))
 
 pub returns-clause-served : goal.returns-clause-served
 returns-clause-served g c = λ start h waits.

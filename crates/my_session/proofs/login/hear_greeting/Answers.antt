@@ -1,5 +1,6 @@
 use Rattle.std.proofs.Common.{sym}
 use Rattle.my_session.specs.Channel.{link_of}
+use Rattle.my_session.specs.Fault.{session_fault}
 use Rattle.my_session.proofs.LoginServed.{greeting_kept, greeting_missed, greeting_read}
 use Rattle.my_session.proofs.Stepping.{greeting_comes, greeting_heard, greeting_tells}
 use Rattle.my_session.proofs.login.hear_greeting.Goals as goal
@@ -9,7 +10,7 @@ hear-requires-clause-waits g c = greeting_comes g.L.Link c.args.channel.now.link
 
 pub returns-in-Err-clause-served : goal.returns-in-Err-clause-served
 returns-in-Err-clause-served g c = λ serving.
-    greeting_missed g.L.Link (link_of c.args.channel.now) (link_of c.hear.new.self) c.in-Err.fault c.requires.awaits.first (c.requires.awaits.greeting serving) (c.in-Err.ensures.err.served serving)
+    rw c.session_fault.ensures (greeting_missed g.L.Link (link_of c.args.channel.now) (link_of c.hear.new.self) (session_fault c.in-Err.fault) c.requires.awaits.first (c.requires.awaits.greeting serving) (c.in-Err.ensures.err.served serving))
 
 pub returns-in-Ok-clause-served : goal.returns-in-Ok-clause-served
 returns-in-Ok-clause-served g c = λ serving.

@@ -1,4 +1,5 @@
 use Rattle.std.proofs.Common.{arith, sym, ◌∙◌}
+use Rattle.my_session.specs.Fault.{session_fault}
 use Rattle.my_session.proofs.Skimming.{drains_more, drained_waits, drained_size, drained_to, drained_none}
 use Rattle.my_session.proofs.Staying.{keeps_err_on}
 use Rattle.my_session.proofs.receiving.skim_message.Goals as goal
@@ -14,7 +15,7 @@ returns-then-wants-eq0-clause-ok g c =
 pub returns-in-Err-clause-err : goal.returns-in-Err-clause-err
 returns-in-Err-clause-err g c = λ now.
     let is = c.in-Err.ensures in
-    drained_none g.L.Link c.args.link.now c.pieces.link c.args.id c.args.taken.now c.pieces.taken c.pieces.skim c.pieces.invariant.drains c.pieces.invariant.within c.skim_piece.new.link c.in-Err.fault c.wants-wants.result c.skim_piece.new.taken now (omega arith) (c.wants-wants.ensures.wants c.args.id 67108864 c.pieces.invariant.drains.fed c.pieces.invariant.drains.skims) is.same is.err
+    drained_none g.L.Link c.args.link.now c.pieces.link c.args.id c.args.taken.now c.pieces.taken c.pieces.skim c.pieces.invariant.drains c.pieces.invariant.within c.skim_piece.new.link (session_fault c.in-Err.fault) c.wants-wants.result c.skim_piece.new.taken now (omega arith) (c.wants-wants.ensures.wants c.args.id 67108864 c.pieces.invariant.drains.fed c.pieces.invariant.drains.skims) is.same is.err
 
 pub pieces-preserved : goal.pieces-preserved
 pieces-preserved g c =
@@ -33,4 +34,4 @@ skim_piece-requires-clause-may g c = record {
 pub returns-in-Err-clause-keeps : goal.returns-in-Err-clause-keeps
 returns-in-Err-clause-keeps g c =
     let is = c.pieces.invariant.drains in
-    keeps_err_on g.L.Link g.met.L.Link.origins_join c.in-Err.fault c.args.link.now c.pieces.link c.skim_piece.new.link is.stays is.tells is.later c.in-Err.ensures.keeps
+    keeps_err_on g.L.Link g.met.L.Link.origins_join (session_fault c.in-Err.fault) c.args.link.now c.pieces.link c.skim_piece.new.link is.stays is.tells is.later c.in-Err.ensures.keeps

@@ -3,6 +3,7 @@ use Rattle.std.proofs.lemmas.Result.{on_ok_weaker, IfErr-weaker}
 use Rattle.my_session.specs.Channel.{channel_wire}
 use Rattle.my_session.specs.Serving.{way_of}
 use Rattle.my_session.proofs.Ran.{ran_unwritten, ran_unsaid, ran_heard}
+use Rattle.my_session.specs.Fault.{session_fault}
 use Rattle.my_session.proofs.Running.{run_unwritten, run_unsaid, runs_by}
 use Rattle.my_session.proofs.Stepping.{reply_comes, said_text, answered}
 use Rattle.my_session.proofs.Uncreating.{says_nothing}
@@ -55,11 +56,11 @@ returns-in-Err-clause-served g c = λ h. ran_unwritten g.L.Link (g.S.Sender.hold
 
 pub returns-in-Err-say-clause-runs : goal.returns-in-Err-say-clause-runs
 returns-in-Err-say-clause-runs g c = λ t.
-    run_unsaid c.args.command.now (channel_wire g.L.Link c.args.channel.now) (channel_wire g.L.Link c.say.new.self) c.as_slice.result.now c.in-Err-say.fault (c.as_slice.ensures ∙ c.in_default.ensures.bytes) (c.in-Err-say.ensures.err.unsaid t)
+    rw c.session_fault.ensures (run_unsaid c.args.command.now (channel_wire g.L.Link c.args.channel.now) (channel_wire g.L.Link c.say.new.self) c.as_slice.result.now (session_fault c.in-Err-say.fault) (c.as_slice.ensures ∙ c.in_default.ensures.bytes) (c.in-Err-say.ensures.err.unsaid t))
 
 pub returns-in-Err-say-clause-served : goal.returns-in-Err-say-clause-served
 returns-in-Err-say-clause-served g c = λ h.
-    ran_unsaid g.L.Link (g.S.Sender.holder c.args.sender.now) c.args.command.now c.requires.may.run.text c.as_slice.result.now (c.as_slice.ensures ∙ c.in_default.ensures.bytes) c.args.channel.now c.say.new.self c.in-Err-say.fault h (c.requires.rest.quiet h) c.in-Err-say.ensures.err
+    rw c.session_fault.ensures (ran_unsaid g.L.Link (g.S.Sender.holder c.args.sender.now) c.args.command.now c.requires.may.run.text c.as_slice.result.now (c.as_slice.ensures ∙ c.in_default.ensures.bytes) c.args.channel.now c.say.new.self (session_fault c.in-Err-say.fault) h (c.requires.rest.quiet h) c.in-Err-say.ensures.err)
 
 pub returns-clause-runs : goal.returns-clause-runs
 returns-clause-runs g c = λ t.

@@ -1,4 +1,5 @@
 use Rattle.std.proofs.Common.{arith, refl, sym, ◌∙◌}
+use Rattle.my_session.specs.Fault.{session_result}
 use Rattle.my_session.proofs.Sending.{may_send_payload, short_is_sent, short_says, says_none, takes_none}
 use Rattle.my_session.proofs.channel.Channel.say_short.Goals as goal
 
@@ -19,4 +20,4 @@ returns-clause-memory g c = takes_none g.L.Link _ c.args.self.now.link c.send_pa
 pub returns-clause-err : goal.returns-clause-err
 returns-clause-err g c =
     let byte = c.ranges.id in
-    says_none g.L.Link (g.S.Sender.holder c.args.sender.now) c.args.self.now c.send_packets.new.self c.args.id c.args.payload.now _ (c.spell_packet.ensures ∙ sym (short_is_sent c.args.id c.args.payload.now (omega arith) c.requires.short)) c.send_packets.result c.send_packets.ensures.err
+    says_none g.L.Link (g.S.Sender.holder c.args.sender.now) c.args.self.now c.send_packets.new.self c.args.id c.args.payload.now _ (c.spell_packet.ensures ∙ sym (short_is_sent c.args.id c.args.payload.now (omega arith) c.requires.short)) (session_result c.send_packets.result) c.send_packets.ensures.err

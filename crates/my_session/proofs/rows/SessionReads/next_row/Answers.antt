@@ -1,5 +1,6 @@
 use Rattle.std.proofs.Common.{refl, rules}
 use Rattle.my_session.specs.Serving.{IsServing}
+use Rattle.my_session.specs.Stop.{stop_fault}
 use Rattle.my_session.proofs.Coming.{next_ended, next_failed, next_found}
 use Rattle.my_session.proofs.rows.SessionReads.next_row.Goals as goal
 
@@ -14,7 +15,7 @@ returns-in-Err g c =
           search rules,
           rw (← c.self.view_is) (λ h.
               let serving : IsServing g.L.Link c.self.inside.channel.link = record { honest = h; alive = (c.self.invariant.3.is_open h alive).alive } in
-              next_failed g.L.Link c.self.inside.form c.self.inside.channel c.advance.new.channel c.self.inside.reader c.advance.new.reader c.in-Err.fault (c.in-Err.ensures.served serving)),
+              rw c.stop_fault-fault.ensures (rw c.message.ensures.place (rw c.message.ensures.payload (next_failed g.L.Link c.self.inside.form c.self.inside.channel c.advance.new.channel c.self.inside.reader c.advance.new.reader (stop_fault c.advance.new.channel.began c.advance.new.channel.message c.in-Err.stop) (c.in-Err.ensures.served serving))))),
         ),
       ),
       search rules,
@@ -24,7 +25,7 @@ pub returns-then-is_row : goal.returns-then-is_row
 returns-then-is_row g c =
     let alive = rw (← c.self.view_is) at c.requires.alive in
     let after = rw c.if-is_row.true at c.in-Ok.ensures.reader in
-    let found_is = rw c.message.ensures.payload at c.found_row.ensures.cells in (
+    let found_is = rw c.message-then-is_row.ensures.payload at c.found_row.ensures.cells in (
       (
         refl,
         (λ _. tt),
