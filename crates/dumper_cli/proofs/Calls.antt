@@ -15,7 +15,6 @@ use Rattle.my_session.specs.Halt.{Halts, Misheard, Unsaid, Stops, at_message, at
 use Rattle.my_session.specs.Login.{password_answer, switch_answer, IsGreeted, IsSwitched, IsAccepted, IsLoggedIn, IsSettingUp, LoginAwaits, a_greeting, a_decision, an_acceptance, a_set_up, LoginSends, the_response, the_switch_answer, the_set_up}
 use Rattle.honest_server.specs.Exchange.{query_payload}
 use Rattle.my_session.specs.Statements.{command_payload, IsRun, RunAwaits, an_ok, RunSends, IsLed, LeadAwaits, LeadSends, IsAsked, IsDescribed, QueryAwaits, a_lead, a_count, a_definition, QuerySends, the_lead, the_query}
-use Rattle.my_session.specs.Peer.{peer_of}
 use Rattle.my_session.specs.declared.peer.Peer.{Peer}
 use Rattle.my_session.specs.Wire.{Wire, Hears, Step, commands, answers, hears, Leads, ends, after_command, after_answer, after_message, Takes, after_sent}
 use Rattle.my_session.specs.declared.fault.SessionFault.{SessionFault}

@@ -8,6 +8,8 @@ use Rattle.plain_data.specs.Cell.{Cell}
 use Rattle.dumper_cli.specs.Columns.{column_from, is_row_of}
 use Rattle.dumper_cli.specs.Writing.{IsWriting}
 use Rattle.dumper_cli.specs.declared.column.Column.{Column}
+use Rattle.dumper_cli.specs.declared.copy.Unadded.{Unadded}
+use Rattle.dumper_cli.specs.declared.copy.Unadded.TheVariants.{File as UnaddedFile, Garbled as UnaddedGarbled, OutOfMemory as UnaddedOutOfMemory}
 use Rattle.dumper_cli.specs.declared.data_file.DataFile.{DataFile}
 use Rattle.dumper_cli.specs.declared.fault.DumpFault.{DumpFault}
 use Rattle.dumper_cli.specs.declared.fault.DumpFault.TheVariants.{FolderNotEmpty, File, Session as InSession}
@@ -29,6 +31,12 @@ abbrev pub Unspelled : List Column → List Cell → ℕ → SessionFault → Ty
 Unspelled columns cells place (Garbled at) = (at ≡ place) × (is_row_of columns cells ≡ false)
 Unspelled columns cells place OutOfMemory = Unit {0}
 Unspelled columns cells place fault = ⊥
+
+-- what a dump answers where a row wasn't added to the file
+abbrev pub unadded_fault : Unadded → DumpFault
+unadded_fault UnaddedFile = File
+unadded_fault (UnaddedGarbled place) = InSession (Garbled place)
+unadded_fault UnaddedOutOfMemory = InSession OutOfMemory
 
 module _ {S : Type 0} (shelf : Ghosts S) where
   -- the row was added to the file

@@ -1,11 +1,11 @@
 //! The rows of the table, asked for and written to the file one by one.
-ghost use Rattle.std.specs.Prelude.{◌<◌, [], IfErr, IfOk, OnOk, length};
+ghost use Rattle.std.specs.Prelude.{◌≡◌, ◌<◌, [], IfErr, IfOk, OnOk, length};
 ghost use Rattle.result_rows.specs.RowCells.{row_cells};
 ghost use Rattle.dumper_cli.specs.AskedBy.{asked_by};
 ghost use Rattle.dumper_cli.specs.Next.{IsReady, HasPendingRows, Keeps, CopiesRow, Broke, Copied};
 ghost use Rattle.dumper_cli.specs.Run.{Reached, Halted};
 ghost use Rattle.dumper_cli.specs.Stage.{asks_rows, awaits_rows};
-ghost use Rattle.dumper_cli.specs.Taking.{AddsRow, Unwritten};
+ghost use Rattle.dumper_cli.specs.Taking.{AddsRow, Unwritten, unadded_fault};
 ghost use Rattle.dumper_cli.specs.Writing.{KeepsFile};
 
 use crate::column::Column;
@@ -60,26 +60,50 @@ pub fn ask_rows<L: Link>(
     }
 }
 
+// Why a row wasn't added to the file. (It is small, since each row is asked for it.)
+#[derive(Clone, Copy)]
+enum Unadded {
+    // The shelf failed, and has counted it.
+    File,
+    // It isn't one of these columns, and came at this place.
+    Garbled(u64),
+    OutOfMemory,
+}
+
+// What a dump answers to it.
+#[cold]
+#[inline(never)]
+fn unadded_fault(unadded: Unadded) -> DumpFault
+    ensures { result ≡ unadded_fault unadded }
+{
+    match unadded {
+        Unadded::File => DumpFault::File,
+        Unadded::Garbled(place) => DumpFault::Session(SessionFault::Garbled(place)),
+        Unadded::OutOfMemory => DumpFault::Session(SessionFault::OutOfMemory),
+    }
+}
+
 // Writes a row to the file.
 fn write_row<S: Shelf>(
     columns: &[Column],
     row: &Row<'_>,
     file: &mut DataFile<S>,
-) -> Result<(), DumpFault>
+) -> Result<(), Unadded>
     ensures keeps { KeepsFile S.Shelf file.old file.new }
     ensures ok { OnOk result (AddsRow S.Shelf columns.now (row_cells row.now) file.old file.new) }
-    ensures err { IfErr result (λ fault. Unwritten S.Shelf columns.now
-        (row_cells row.now) row.now.place file.old file.new fault) }
+    ensures err { IfErr result (λ unadded. Unwritten S.Shelf columns.now
+        (row_cells row.now) row.now.place file.old file.new (unadded_fault unadded)) }
 {
     match file.row(columns, row) {
         Ok(()) => Ok(()),
-        Err(WriteFault::File) => Err(DumpFault::File),
-        Err(WriteFault::Mismatch) => Err(DumpFault::Session(SessionFault::Garbled(row.place()))),
-        Err(WriteFault::OutOfMemory) => Err(DumpFault::Session(SessionFault::OutOfMemory)),
+        Err(WriteFault::File) => Err(Unadded::File),
+        Err(WriteFault::Mismatch) => Err(Unadded::Garbled(row.place())),
+        Err(WriteFault::OutOfMemory) => Err(Unadded::OutOfMemory),
     }
 }
 
 // Reads a further row and writes it to the file, and says whether more may come.
+#[inline]
 fn copy_row<L: Link, S: Shelf>(
     session: &mut Session<L>,
     columns: &[Column],
@@ -100,7 +124,7 @@ fn copy_row<L: Link, S: Shelf>(
     match session.next_row() {
         Ok(Some(row)) => match write_row(columns, &row, file) {
             Ok(()) => Ok(true),
-            Err(fault) => Err(fault),
+            Err(unadded) => Err(unadded_fault(unadded)),
         },
         Ok(None) => Ok(false),
         Err(fault) => Err(DumpFault::Session(fault)),

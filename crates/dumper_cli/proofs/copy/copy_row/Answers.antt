@@ -1,5 +1,6 @@
 use Rattle.std.proofs.Common.{refl}
 use Rattle.dumper_cli.specs.Stage.{awaits_rows}
+use Rattle.dumper_cli.specs.Taking.{unadded_fault}
 use Rattle.dumper_cli.proofs.NextRows.{nexts_keeps, nexts_row, nexts_no_row, nexts_rows_end, nexts_halt}
 use Rattle.dumper_cli.proofs.copy.copy_row.Goals as goal
 
@@ -17,7 +18,7 @@ returns-in-Err-write_row-clause-keeps g c = nexts_keeps g.L.Link g.met.L.Link.or
 pub returns-in-Err-write_row-clause-err : goal.returns-in-Err-write_row-clause-err
 returns-in-Err-write_row-clause-err g c = λ asked rows start at.
     let next = rw (c.in-Ok-Some.is, c.in-Ok-Some.field-0-is) at c.next_row.follows.holds-at-none in
-    nexts_no_row g.L.Link g.met.L.Link.origins_join c.args.session.now c.next_row.follows.lender-at-none c.requires.rows c.in-Ok-Some.row next g.S.Shelf c.args.columns.now c.args.file.now c.write_row.new.file c.in-Err-write_row.fault c.in-Err-write_row.ensures.err asked rows start at
+    rw c.unadded_fault.ensures (nexts_no_row g.L.Link g.met.L.Link.origins_join c.args.session.now c.next_row.follows.lender-at-none c.requires.rows c.in-Ok-Some.row next g.S.Shelf c.args.columns.now c.args.file.now c.write_row.new.file (unadded_fault c.in-Err-write_row.unadded) c.in-Err-write_row.ensures.err asked rows start at)
 
 pub returns-in-Ok-None-clause-keeps : goal.returns-in-Ok-None-clause-keeps
 returns-in-Ok-None-clause-keeps g c = nexts_keeps g.L.Link g.met.L.Link.origins_join c.args.session.now c.next_row.follows.lender-at-none c.next_row.result c.next_row.follows.holds-at-none

@@ -1,4 +1,4 @@
-use Rattle.std.proofs.Common.{◌<◌, ◌+◌, true, ◌∙◌, ap, arith}
+use Rattle.std.proofs.Common.{true, ◌∙◌, ap, arith}
 use Rattle.std.proofs.lemmas.Result.{on_ok_weaker, IfErr-weaker}
 use Rattle.link_traits.specs.Site.{Links, told_after_return}
 use Rattle.dumper_cli.specs.AskedBy.{asked_by}
