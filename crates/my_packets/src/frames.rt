@@ -234,8 +234,15 @@ impl Frames {
     /// A stream of which nothing was fed, whose first packet has sequence id 0. A message may have at
     /// most `limit` bytes, in all of its packets. Takes no memory.
     pub fn new(alloc: Global, limit: u32) -> Frames
-        ensures { result ≡
-            record { message = []; began = 0; bytes = []; place = 0; id = 0; limit = limit; room = 0 } }
+        ensures { result ≡ record {
+          message = [];
+          began = 0;
+          bytes = [];
+          place = 0;
+          id = 0;
+          limit = limit;
+          room = 0;
+        } }
     {
         Frames {
             store: Vec::new(alloc),
