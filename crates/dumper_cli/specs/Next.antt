@@ -95,12 +95,6 @@ module _ {L S : Type 0} (link : LinkGhosts L) (shelf : ShelfGhosts S) where
         IsWriting shelf schema table columns rows file →
         IsWriting shelf schema table columns rows new_file
 
-  -- after a row, or after the last
-  abbrev pub CopiesRow : Bool → List Column → SessionView L → DataFile S shelf → SessionView L →
-      DataFile S shelf → Type 0
-  CopiesRow true columns old file new new_file = RowAdded columns old file new new_file
-  CopiesRow false columns old file new new_file = RowsEnd columns old file new new_file
-
   -- why a run stopped that reads rows into a file
   abbrev pub Broke : Asked → Start → S → L → S → DumpFault → Type 0
   Broke asked start before new after (FolderNotEmpty name) = ⊥

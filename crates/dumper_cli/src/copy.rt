@@ -1,8 +1,8 @@
 //! The rows of the table, asked for and written to the file one by one.
-ghost use Rattle.std.specs.Prelude.{◌≡◌, ◌<◌, [], IfErr, IfOk, OnOk, length};
+ghost use Rattle.std.specs.Prelude.{◌≡◌, ◌<◌, [], IfErr, OnOk, length};
 ghost use Rattle.result_rows.specs.RowCells.{row_cells};
 ghost use Rattle.dumper_cli.specs.AskedBy.{asked_by};
-ghost use Rattle.dumper_cli.specs.Next.{IsReady, HasPendingRows, Keeps, CopiesRow, Broke, Copied};
+ghost use Rattle.dumper_cli.specs.Next.{IsReady, HasPendingRows, Keeps, Broke, Copied};
 ghost use Rattle.dumper_cli.specs.Run.{Reached, Halted};
 ghost use Rattle.dumper_cli.specs.Stage.{asks_rows, awaits_rows};
 ghost use Rattle.dumper_cli.specs.Taking.{AddsRow, Unwritten, unadded_fault};
@@ -102,35 +102,6 @@ fn write_row<S: Shelf>(
     }
 }
 
-// Reads a further row and writes it to the file, and says whether more may come.
-#[inline]
-fn copy_row<L: Link, S: Shelf>(
-    session: &mut Session<L>,
-    columns: &[Column],
-    file: &mut DataFile<S>,
-) -> Result<bool, DumpFault>
-    requires rows { HasPendingRows session.old }
-
-    ensures keeps { Keeps L.Link session.old session.new }
-    ensures keeps_file { KeepsFile S.Shelf file.old file.new }
-    ensures ok { IfOk result (λ goes_on.
-        CopiesRow L.Link S.Shelf goes_on columns.now session.old file.old session.new file.new) }
-    ensures err { IfErr result
-        (λ fault. (asked rows start : _) →
-        Reached L.Link asked (awaits_rows session.old.pending.reading columns.now rows) start
-        session.old → Broke L.Link S.Shelf asked start file.old.shelf session.new.link
-        file.new.shelf fault) }
-{
-    match session.next_row() {
-        Ok(Some(row)) => match write_row(columns, &row, file) {
-            Ok(()) => Ok(true),
-            Err(unadded) => Err(unadded_fault(unadded)),
-        },
-        Ok(None) => Ok(false),
-        Err(fault) => Err(DumpFault::Session(fault)),
-    }
-}
-
 /// Reads the rows, and writes each to the file as it comes.
 pub fn copy_rows<L: Link, S: Shelf>(
     session: &mut Session<L>,
@@ -151,12 +122,13 @@ pub fn copy_rows<L: Link, S: Shelf>(
         file.new.shelf fault) }
 {
     'rows: loop {
-        let goes_on = match copy_row(session, columns, file) {
-            Ok(goes_on) => goes_on,
-            Err(fault) => return Err(fault),
-        };
-        if !goes_on {
-            return Ok(());
+        match session.next_row() {
+            Ok(Some(row)) => match write_row(columns, &row, file) {
+                Ok(()) => {}
+                Err(unadded) => return Err(unadded_fault(unadded)),
+            },
+            Ok(None) => return Ok(()),
+            Err(fault) => return Err(DumpFault::Session(fault)),
         }
     }
 }
