@@ -10,7 +10,7 @@ use Rattle.my_session.proofs.Payloads.{one_payload}
 use Rattle.my_session.proofs.Sending.{short_is_sent}
 use Rattle.my_session.specs.Channel.{IsOfLink, SendsNone, SendsPackets, outgoing}
 use Rattle.my_session.specs.Served.{ClosesServed, quits as is_closed, unsent, LeavesUnsaid}
-use Rattle.my_session.specs.Fault.{session_fault, session_result}
+use Rattle.my_session.specs.Fault.{session_result}
 use Rattle.my_session.specs.declared.fault.ChannelFault.{ChannelFault}
 use Rattle.my_session.specs.declared.fault.SessionFault.{SessionFault}
 

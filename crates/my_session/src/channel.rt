@@ -275,7 +275,8 @@ impl<L: Link> Channel<L> {
         ensures began { OnOk result (self.new.began ≡ self.old.place) }
         ensures ok { OnOk result
             (HearsNext L.Link self.new.message (link_of self.old) (link_of self.new)) }
-        ensures err { IfErr (session_result result) (HearsNone L.Link (link_of self.old) (link_of self.new)) }
+        ensures err { IfErr (session_result result)
+            (HearsNone L.Link (link_of self.old) (link_of self.new)) }
     {
         self.frames.start(self.id);
         self.began = self.taken;
@@ -308,7 +309,8 @@ impl<L: Link> Channel<L> {
         ensures memory { result ≡ Err ChannelFault.OutOfMemory → ⊥ }
         ensures ok { IfOk result
             (λ skim. SkimsNext L.Link skim (link_of self.old) (link_of self.new)) }
-        ensures err { IfErr (session_result result) (HearsNone L.Link (link_of self.old) (link_of self.new)) }
+        ensures err { IfErr (session_result result)
+            (HearsNone L.Link (link_of self.old) (link_of self.new)) }
     {
         let began = self.taken;
         match skim_message(&mut self.link, self.id, &mut self.piece, &mut self.taken) {

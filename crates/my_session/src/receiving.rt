@@ -98,7 +98,8 @@ pub(crate) fn receive<L: Link>(
     ensures empty { OnOk result (frames.new.bytes ≡ []) }
     ensures ok { OnOk result (HearsNext L.Link frames.new.message
         (link_at link.old taken.old frames.old.id) (link_at link.new taken.new frames.new.id)) }
-    ensures err { IfErr (session_result result) (HearsNone L.Link (link_at link.old taken.old frames.old.id)
+    ensures err { IfErr (session_result result)
+        (HearsNone L.Link (link_at link.old taken.old frames.old.id)
         (link_at link.new taken.new frames.new.id)) }
 {
     let began = *taken;

@@ -159,10 +159,12 @@ impl<L: Link> Session<L> {
         }
     }
 
-    /// Whether the session has failed: a call of it answered another fault than `Refused`. Takes no
-    /// memory.
+    /// Whether the session has failed: a call of it answered another fault than `Refused`. As long as it
+    /// hasn't, an honest server's link hasn't failed either. Takes no memory.
     pub fn failed(&self) -> bool
-        ensures { result ≡ self.now.has_failed }
+        ensures is { result ≡ self.now.has_failed }
+        ensures alive { L.honest self.now.link →
+            self.now.has_failed ≡ false → (L.served self.now.link).failed ≡ false }
     {
         self.has_failed
     }
