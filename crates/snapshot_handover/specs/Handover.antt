@@ -1,5 +1,5 @@
 -- What the lock session's steps are, and what each leaves of the state that an honest server keeps.
-use Rattle.std.specs.Prelude.{◌≡◌, true, false, List, [], ◌∷◌, ◌++◌, Option, None, Result}
+use Rattle.std.specs.Prelude.{◌≡◌, true, false, List, [], ◌∷◌, ◌++◌, Option, None, Result, Some, OnOk}
 use Rattle.honest_server.specs.State.{State}
 use Rattle.link_traits.specs.declared.link.Link.{Ghosts}
 use Rattle.my_session.specs.InStep.{ServesRun}
@@ -11,14 +11,14 @@ use Rattle.statement_forms.specs.declared.command.Command.{Command}
 use Rattle.wire_forms.specs.Reading.{idle}
 
 -- no view, and no open transaction
-pub record IsIdle (state : State) : Type 0 where
+pub record HasNothingOpen (state : State) : Type 0 where
   pub view : state.view ≡ None
   pub pending : state.pending ≡ None
 
 -- an idle link that holds the backup lock
 pub record IsGuarded (state : State) : Type 0 where
   pub guarded : state.guarded ≡ true
-  pub is_idle : IsIdle state
+  pub is_idle : HasNothingOpen state
 
 -- one that holds the read lock too, which was granted last at the history that is seen
 pub record IsFrozen (state : State) : Type 0 where
@@ -41,7 +41,7 @@ pub record IsThawed (old new : State) : Type 0 where
 -- the backup lock was given up by an idle link
 pub record IsReleased (state : State) : Type 0 where
   pub guarded : state.guarded ≡ false
-  pub is_idle : IsIdle state
+  pub is_idle : HasNothingOpen state
 
 -- a link that has no transactions of its own, and none open
 pub record MayShow (state : State) : Type 0 where
@@ -62,3 +62,8 @@ module _ {L : Type 0} (of : Ghosts L) where
     pub fault : RunFaults command result
     pub served : of.honest old.link →
         ServesRun of None command (place_of of old) result new.link
+
+  -- at Ok the view of the worker's link is what the holder's has seen
+  abbrev pub ShowsSeen : L → Result (Unit {0}) SessionFault → L → Type 0
+  ShowsSeen holder result worker =
+      OnOk result ((of.served worker).state.view ≡ Some (of.served holder).state.seen)

@@ -1,7 +1,7 @@
 //! The states of the lock session.
 ghost use Rattle.std.specs.Prelude.{◌≡◌, IfOk, MatchResult, Ok, Err};
 ghost use Rattle.my_session.specs.Session.{IsFree, SessionView, reader_view};
-ghost use Rattle.snapshot_handover.specs.Handover.{IsFrozen, IsGranted, IsGuarded, IsIdle, IsReleased, IsThawed, Ran};
+ghost use Rattle.snapshot_handover.specs.Handover.{IsFrozen, IsGranted, IsGuarded, HasNothingOpen, IsReleased, IsThawed, Ran};
 ghost use Rattle.statement_forms.specs.declared.command.Command.TheVariants.{LockInstance, FlushTables, UnlockTables, UnlockInstance};
 
 use crate::step::step;
@@ -44,7 +44,7 @@ impl<L: Link> Guarded<L> {
     /// (MySQL 8.0 Reference Manual, 15.3.5 "LOCK INSTANCE FOR BACKUP and UNLOCK INSTANCE Statements".)
     pub fn lock(session: Session<L>) -> Result<Guarded<L>, (Session<L>, SessionFault)>
         requires free { IsFree (reader_view L.Link session) }
-        requires is_idle { L.honest session.link → IsIdle (L.served session.link).state }
+        requires is_idle { L.honest session.link → HasNothingOpen (L.served session.link).state }
 
         ensures ran { MatchResult result (λ made. Ran L.Link LockInstance session (Ok tt) made)
             (λ gone. Ran L.Link LockInstance session (Err gone.1) gone.0) }

@@ -2,7 +2,7 @@
 ghost use Rattle.std.specs.Prelude.{◌≡◌, false, Some, None, OnOk};
 ghost use Rattle.my_session.specs.InStep.{ServesRun};
 ghost use Rattle.my_session.specs.Session.{IsFree, KeepsSession, RunFaults, place_of, reader_view};
-ghost use Rattle.snapshot_handover.specs.Handover.{MayShow, Ran, WorkerView};
+ghost use Rattle.snapshot_handover.specs.Handover.{MayShow, Ran, ShowsSeen, WorkerView};
 ghost use Rattle.statement_forms.specs.declared.command.Command.TheVariants.{RepeatableRead, StartSnapshot};
 
 use crate::states::Frozen;
@@ -72,8 +72,7 @@ impl<L: Link> Worker<L> {
         ensures served { L.honest self.old.session.link → ServesRun L.Link (Some holder.now.link)
             StartSnapshot (place_of L.Link self.old.session) result self.new.session.link }
         ensures shows { L.honest self.old.session.link →
-            OnOk result ((L.served self.new.session.link).state.view
-            ≡ Some (L.served holder.now.link).state.seen) }
+            ShowsSeen L.Link holder.now.link result self.new.session.link }
     {
         // Known by this: the holder's link hasn't failed.
         let _ = holder.session.failed();
