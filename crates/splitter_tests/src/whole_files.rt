@@ -1,6 +1,6 @@
 //! The statements of whole files, however their bytes are cut.
 ghost use Rattle.std.specs.Prelude.{◌≡◌, ◌+◌, ◌<◌, ◌≤◌, ◌^◌, length, IfOk};
-ghost use Rattle.statement_splitter.specs.Pieces.{pieces, unread_file};
+ghost use Rattle.splitter_forms.specs.Pieces.{pieces, unread_file};
 ghost use Rattle.statement_splitter.specs.Laws.{written, WritesOut};
 ghost use Rattle.statement_splitter.specs.Splits.{IsEven};
 

@@ -4,8 +4,8 @@ use Rattle.std.specs.Prelude.{nat_eq}
 use Rattle.std.proofs.lemmas.Bool.Decides.{nat_tests}
 use Rattle.std.proofs.lemmas.List.{drop_more, drop_all, length-drop, get_or-drop}
 use Rattle.memchr.specs.Find.{IsFirstByte, is_byte}
-use Rattle.statement_splitter.specs.Scan.{before_mark}
-use Rattle.statement_splitter.specs.Pieces.{begins, is_front_of}
+use Rattle.splitter_forms.specs.Scan.{before_mark}
+use Rattle.splitter_forms.specs.Pieces.{begins, is_front_of}
 use Rattle.statement_splitter.specs.State.{Until, GoesOn, FindsEnd}
 use Rattle.statement_splitter.proofs.Words.{front_cons, front_empty, neither_more}
 use Rattle.statement_splitter.proofs.Searches.{goes_further, goes_to_end, no_first, mark_here, mark_not_here}

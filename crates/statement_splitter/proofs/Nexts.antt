@@ -1,14 +1,14 @@
 -- What comes next, and the same with more bytes.
 use Rattle.std.proofs.Common.{◌≡◌, ℕ, zero, suc, ◌+◌, ◌-◌, ◌<◌, ◌≤◌, Bool, true, false, List, [], ◌∷◌, ◌++◌, length, get_or, take, drop, Option, Some, None, refl, sym, ap, ◌∙◌, arith, subst, length-append}
 use Rattle.std.proofs.lemmas.List.{length-drop, length-take, drop-append-le, get_or_append_left, append-nil, append_assoc, drop_all}
-use Rattle.statement_splitter.specs.Scan.{before_semicolon, before_mark, dollar_line, end_size, plus}
-use Rattle.statement_splitter.specs.Pieces.{begins, is_front_of, opening, UnreadText, with_more, unread_past, ends_line, NextPiece, unended, none, PieceStep, found, further, statement_next, passed, comment_step, step_by, step, next_within, next, next_size, PassesLimit}
+use Rattle.splitter_forms.specs.Scan.{before_semicolon, before_mark, dollar_line, end_size, plus}
+use Rattle.splitter_forms.specs.Pieces.{begins, is_front_of, opening, UnreadText, with_more, unread_past, ends_line, NextPiece, unended, none, PieceStep, found, further, statement_next, passed, comment_step, step_by, step, next_within, next, next_size, PassesLimit}
 use Rattle.statement_splitter.specs.State.{GoesOn, FindsEnd, size_from, MayEnd, InComment, InStatement, LeastSize, IsEnded}
-use Rattle.statement_splitter.specs.declared.delimiter.Delimiter.{Delimiter}
-use Rattle.statement_splitter.specs.declared.delimiter.Delimiter.TheVariants.{Semicolon, Dollars}
-use Rattle.statement_splitter.specs.declared.within.Within.{Within}
-use Rattle.statement_splitter.specs.declared.opening.Opening.{Opening}
-use Rattle.statement_splitter.specs.declared.opening.Opening.TheVariants.{Nothing, White, Comment, DelimiterLine, Statement, Undecided}
+use Rattle.splitter_forms.specs.declared.delimiter.Delimiter.{Delimiter}
+use Rattle.splitter_forms.specs.declared.delimiter.Delimiter.TheVariants.{Semicolon, Dollars}
+use Rattle.splitter_forms.specs.declared.within.Within.{Within}
+use Rattle.splitter_forms.specs.declared.opening.Opening.{Opening}
+use Rattle.splitter_forms.specs.declared.opening.Opening.TheVariants.{Nothing, White, Comment, DelimiterLine, Statement, Undecided}
 use Rattle.statement_splitter.proofs.Words.{begins_self, begins_long, front_completed, front_short}
 use Rattle.statement_splitter.proofs.Openings.{HasRoom, opening_room}
 

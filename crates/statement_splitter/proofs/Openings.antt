@@ -7,11 +7,11 @@ use Rattle.std.proofs.lemmas.List.{length-drop, drop-append-le, drop_all}
 use Rattle.std.proofs.lemmas.List.Folds.{prefix_len-append}
 use Rattle.std.proofs.lemmas.List.Sums.{prefix_len-le-length}
 use Rattle.plain_data.specs.Byte.{is_white}
-use Rattle.statement_splitter.specs.Pieces.{begins, is_front_of, is_dollar, dollars_line, delimiter_line, line_opening, dash_opening, slash_opening, opening}
-use Rattle.statement_splitter.specs.declared.delimiter.Delimiter.TheVariants.{Semicolon, Dollars}
-use Rattle.statement_splitter.specs.declared.opening.Opening.{Opening}
-use Rattle.statement_splitter.specs.declared.opening.Opening.TheVariants.{Nothing, White, Comment, DelimiterLine, Statement, Undecided}
-use Rattle.statement_splitter.specs.declared.opening.CommentEnd.TheVariants.{LineFeed, StarSlash}
+use Rattle.splitter_forms.specs.Pieces.{begins, is_front_of, is_dollar, dollars_line, delimiter_line, line_opening, dash_opening, slash_opening, opening}
+use Rattle.splitter_forms.specs.declared.delimiter.Delimiter.TheVariants.{Semicolon, Dollars}
+use Rattle.splitter_forms.specs.declared.opening.Opening.{Opening}
+use Rattle.splitter_forms.specs.declared.opening.Opening.TheVariants.{Nothing, White, Comment, DelimiterLine, Statement, Undecided}
+use Rattle.splitter_forms.specs.declared.opening.CommentEnd.TheVariants.{LineFeed, StarSlash}
 use Rattle.statement_splitter.proofs.Words.{begins_more, neither_more, begins_long}
 
 -- more bytes than so many don't change it

@@ -1,17 +1,17 @@
 -- Places, and what stands there.
 use Rattle.std.proofs.Common.{◌≡◌, ◌≢◌, ℕ, ◌+◌, ◌<◌, ◌≤◌, ◌^◌, Bool, true, List, ◌++◌, length, take, drop, sym, ap, ◌∙◌, arith, subst, length-append}
 use Rattle.std.proofs.lemmas.List.{length-drop, drop-drop, drop-append-le, drop_all, take-append-le, append_assoc}
-use Rattle.statement_splitter.specs.Scan.{before_mark, size_in, end_size, is_line, plus}
-use Rattle.statement_splitter.specs.Pieces.{opening, GivesPiece, mark_of, UnreadText, with_more, unread_past, ends_line, waiting, none, further, comment_step, step_by, step, next}
+use Rattle.splitter_forms.specs.Scan.{before_mark, size_in, end_size, is_line, plus}
+use Rattle.splitter_forms.specs.Pieces.{opening, GivesPiece, mark_of, UnreadText, with_more, unread_past, ends_line, waiting, none, further, comment_step, step_by, step, next}
 use Rattle.statement_splitter.specs.State.{FindsEnd, later_place, size_from, unread_at, InComment, InStatement, IsEnded, IsPlaceWithin, PassesOver, Known}
-use Rattle.statement_splitter.specs.declared.delimiter.Delimiter.{Delimiter}
-use Rattle.statement_splitter.specs.declared.delimiter.Delimiter.TheVariants.{Semicolon, Dollars}
-use Rattle.statement_splitter.specs.declared.within.Within.{Within}
-use Rattle.statement_splitter.specs.declared.within.Within.TheVariants.{Text}
-use Rattle.statement_splitter.specs.declared.opening.Opening.{Opening}
-use Rattle.statement_splitter.specs.declared.opening.Opening.TheVariants.{Nothing, White, Comment, DelimiterLine, Statement, Undecided}
-use Rattle.statement_splitter.specs.declared.opening.CommentEnd.{CommentEnd}
-use Rattle.statement_splitter.specs.declared.opening.CommentEnd.TheVariants.{LineFeed, StarSlash}
+use Rattle.splitter_forms.specs.declared.delimiter.Delimiter.{Delimiter}
+use Rattle.splitter_forms.specs.declared.delimiter.Delimiter.TheVariants.{Semicolon, Dollars}
+use Rattle.splitter_forms.specs.declared.within.Within.{Within}
+use Rattle.splitter_forms.specs.declared.within.Within.TheVariants.{Text}
+use Rattle.splitter_forms.specs.declared.opening.Opening.{Opening}
+use Rattle.splitter_forms.specs.declared.opening.Opening.TheVariants.{Nothing, White, Comment, DelimiterLine, Statement, Undecided}
+use Rattle.splitter_forms.specs.declared.opening.CommentEnd.{CommentEnd}
+use Rattle.splitter_forms.specs.declared.opening.CommentEnd.TheVariants.{LineFeed, StarSlash}
 use Rattle.statement_splitter.specs.declared.place.Begun.{Begun}
 use Rattle.statement_splitter.specs.declared.place.Begun.TheVariants.{Unknown, InComment as in_comment, InStatement as in_statement}
 use Rattle.statement_splitter.specs.declared.place.Place.{Place}

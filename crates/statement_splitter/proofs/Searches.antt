@@ -4,10 +4,10 @@ use Rattle.std.specs.Prelude.{nat_eq}
 use Rattle.std.specs.List.{prefix_len}
 use Rattle.std.proofs.lemmas.Bool.Decides.{nat_tests}
 use Rattle.std.proofs.lemmas.List.{drop_more, length-drop, length-replicate}
-use Rattle.statement_splitter.specs.Scan.{after_byte, is_text, before_semicolon, before_mark, dollar_line, plus}
-use Rattle.statement_splitter.specs.Pieces.{begins, is_front_of, is_dollar}
+use Rattle.splitter_forms.specs.Scan.{after_byte, is_text, before_semicolon, before_mark, dollar_line, plus}
+use Rattle.splitter_forms.specs.Pieces.{begins, is_front_of, is_dollar}
 use Rattle.statement_splitter.specs.State.{IsPlain, RunWithin, GoesOn, FindsEnd}
-use Rattle.statement_splitter.specs.declared.within.Within.{Within}
+use Rattle.splitter_forms.specs.declared.within.Within.{Within}
 use Rattle.statement_splitter.proofs.Words.{begins_more, begins_long, front_cons, front_empty, same_back}
 
 pub plus-plus : (a b : ℕ) (size : Option ℕ) → plus a (plus b size) ≡ plus (a + b) size

@@ -1,6 +1,6 @@
 -- What one step of a splitter does.
 use Rattle.std.proofs.Common.{◌≡◌, ◌≢◌, ℕ, ◌<◌, ◌≤◌, List, [], None, refl, sym, ap, ◌∙◌, arith}
-use Rattle.statement_splitter.specs.Pieces.{UnreadText, with_more, Piece, piece, unended, waiting, none, next, next_size, PassesLimit, GivesNone}
+use Rattle.splitter_forms.specs.Pieces.{UnreadText, with_more, Piece, piece, unended, waiting, none, next, next_size, PassesLimit, GivesNone}
 use Rattle.statement_splitter.specs.State.{unread_at, Finds, Stands, least}
 use Rattle.statement_splitter.specs.declared.place.Found.{Found}
 use Rattle.statement_splitter.specs.declared.place.Found.TheVariants.{Ended, Unended, Waiting, Nothing}

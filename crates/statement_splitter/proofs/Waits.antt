@@ -7,12 +7,12 @@ use Rattle.std.proofs.lemmas.List.{length-drop, drop-drop, drop_at, drop_all, ap
 use Rattle.std.proofs.lemmas.List.Folds.{prefix_len-append}
 use Rattle.std.proofs.lemmas.List.Sums.{prefix_len-le-length, prefix_len_passes}
 use Rattle.plain_data.specs.Byte.{is_white}
-use Rattle.statement_splitter.specs.Pieces.{begins, is_front_of, is_dollar, dollars_line, delimiter_line, line_opening, dash_opening, slash_opening, opening, UnreadText, with_more, unread_past, next, next_size, step, step_by, further}
-use Rattle.statement_splitter.specs.declared.delimiter.Delimiter.{Delimiter}
-use Rattle.statement_splitter.specs.declared.delimiter.Delimiter.TheVariants.{Semicolon, Dollars}
-use Rattle.statement_splitter.specs.declared.opening.Opening.{Opening}
-use Rattle.statement_splitter.specs.declared.opening.Opening.TheVariants.{White, Comment, DelimiterLine, Statement, Undecided}
-use Rattle.statement_splitter.specs.declared.opening.CommentEnd.TheVariants.{LineFeed, StarSlash}
+use Rattle.splitter_forms.specs.Pieces.{begins, is_front_of, is_dollar, dollars_line, delimiter_line, line_opening, dash_opening, slash_opening, opening, UnreadText, with_more, unread_past, next, next_size, step, step_by, further}
+use Rattle.splitter_forms.specs.declared.delimiter.Delimiter.{Delimiter}
+use Rattle.splitter_forms.specs.declared.delimiter.Delimiter.TheVariants.{Semicolon, Dollars}
+use Rattle.splitter_forms.specs.declared.opening.Opening.{Opening}
+use Rattle.splitter_forms.specs.declared.opening.Opening.TheVariants.{White, Comment, DelimiterLine, Statement, Undecided}
+use Rattle.splitter_forms.specs.declared.opening.CommentEnd.TheVariants.{LineFeed, StarSlash}
 use Rattle.statement_splitter.proofs.Words.{begins_split, front_completed, front_cons, front_empty, same_back}
 use Rattle.statement_splitter.proofs.Nexts.{further_here}
 

@@ -1,13 +1,13 @@
 -- The statements of a whole file, one after the other.
 use Rattle.std.proofs.Common.{◌≡◌, ◌≢◌, ℕ, zero, suc, ◌+◌, ◌<◌, ◌≤◌, List, [], ◌∷◌, ◌++◌, length, take, drop, Option, Some, None, refl, sym, ap, ◌∙◌, arith, take-add, length-append}
 use Rattle.std.proofs.lemmas.List.{append_assoc, append-nil, take_all}
-use Rattle.statement_splitter.specs.Scan.{size_in, end_size}
-use Rattle.statement_splitter.specs.Pieces.{opening, UnreadText, with_more, Piece, NextPiece, piece, unended, waiting, none, PieceStep, found, further, statement_next, comment_step, step_by, step, next_within, next, pieces_within, pieces, last_within, last, begun_size, next_size, PassesLimit, GivesPiece, GivesNone, unread_file}
+use Rattle.splitter_forms.specs.Scan.{size_in, end_size}
+use Rattle.splitter_forms.specs.Pieces.{opening, UnreadText, with_more, Piece, NextPiece, piece, unended, waiting, none, PieceStep, found, further, statement_next, comment_step, step_by, step, next_within, next, pieces_within, pieces, last_within, last, begun_size, next_size, PassesLimit, GivesPiece, GivesNone, unread_file}
 use Rattle.statement_splitter.specs.Laws.{SameFromThenOn, written, WritesOut}
-use Rattle.statement_splitter.specs.declared.delimiter.Delimiter.{Delimiter}
-use Rattle.statement_splitter.specs.declared.delimiter.Delimiter.TheVariants.{Semicolon, Dollars}
-use Rattle.statement_splitter.specs.declared.opening.Opening.{Opening}
-use Rattle.statement_splitter.specs.declared.opening.Opening.TheVariants.{Nothing, White, Comment, DelimiterLine, Statement, Undecided}
+use Rattle.splitter_forms.specs.declared.delimiter.Delimiter.{Delimiter}
+use Rattle.splitter_forms.specs.declared.delimiter.Delimiter.TheVariants.{Semicolon, Dollars}
+use Rattle.splitter_forms.specs.declared.opening.Opening.{Opening}
+use Rattle.splitter_forms.specs.declared.opening.Opening.TheVariants.{Nothing, White, Comment, DelimiterLine, Statement, Undecided}
 use Rattle.statement_splitter.proofs.Nexts.{step_shorter, drop_less, no_more, more_twice}
 
 some_there : (ending : Delimiter) (bytes : List ℕ) (size : ℕ) → size_in ending bytes ≡ Some size → 0 < length bytes

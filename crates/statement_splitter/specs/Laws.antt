@@ -1,6 +1,6 @@
 -- What follows from calls of a splitter, whatever bytes follow.
 use Rattle.std.specs.Prelude.{ℕ, ◌≡◌, List, [], ◌∷◌, ◌++◌, codes}
-use Rattle.statement_splitter.specs.Pieces.{UnreadText, with_more, Piece, pieces, PassesLimit, GivesPiece, GivesNone}
+use Rattle.splitter_forms.specs.Pieces.{UnreadText, with_more, Piece, pieces, PassesLimit, GivesPiece, GivesNone}
 
 -- where a statement is given, it is the first of the file's, and the others are those of what is unread after it
 abbrev pub AGivenPieceIsTheFirst : Type 0

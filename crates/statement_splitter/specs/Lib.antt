@@ -1,5 +1,3 @@
 pub mod Laws
-pub mod Pieces
-pub mod Scan
 pub mod Splits
 pub mod State

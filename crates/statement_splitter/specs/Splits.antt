@@ -1,6 +1,6 @@
 -- What reading the next statement does.
 use Rattle.std.specs.Prelude.{◌≡◌, ℕ, ◌+◌, ◌≤◌, Bool, true, false, List, [], length, Result, Ok, Err, Option, Some, None}
-use Rattle.statement_splitter.specs.Pieces.{UnreadText, with_more, Piece, PassesLimit, GivesPiece, GivesNone}
+use Rattle.splitter_forms.specs.Pieces.{UnreadText, with_more, Piece, PassesLimit, GivesPiece, GivesNone}
 use Rattle.statement_splitter.specs.declared.splitter.SplitFault.{SplitFault}
 use Rattle.statement_splitter.specs.declared.splitter.SplitFault.TheVariants.{TooLong}
 use Rattle.statement_splitter.specs.declared.splitter.Piece as lent

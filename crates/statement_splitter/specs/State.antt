@@ -1,11 +1,11 @@
 -- How far a splitter looked at the bytes that it holds.
 use Rattle.std.specs.Prelude.{◌≡◌, ℕ, ◌+◌, ◌-◌, ◌<◌, ◌≤◌, ◌^◌, ◌==◌, ◌&&◌, Bool, true, false, List, [], ◌∷◌, ◌++◌, length, replicate, drop, slice_index, Option, Some, None}
-use Rattle.statement_splitter.specs.Scan.{after_byte, is_text, before_semicolon, before_mark, dollar_line, size_in, end_size, is_line, plus}
-use Rattle.statement_splitter.specs.Pieces.{begins, is_front_of, opening, mark_of, UnreadText, with_more, unended, waiting, none, statement_next, comment_step, step, next, next_size}
-use Rattle.statement_splitter.specs.declared.delimiter.Delimiter.{Delimiter}
-use Rattle.statement_splitter.specs.declared.delimiter.Delimiter.TheVariants.{Semicolon, Dollars}
-use Rattle.statement_splitter.specs.declared.within.Within.{Within}
-use Rattle.statement_splitter.specs.declared.opening.Opening.TheVariants.{Statement}
+use Rattle.splitter_forms.specs.Scan.{after_byte, is_text, before_semicolon, before_mark, dollar_line, size_in, end_size, is_line, plus}
+use Rattle.splitter_forms.specs.Pieces.{begins, is_front_of, opening, mark_of, UnreadText, with_more, unended, waiting, none, statement_next, comment_step, step, next, next_size}
+use Rattle.splitter_forms.specs.declared.delimiter.Delimiter.{Delimiter}
+use Rattle.splitter_forms.specs.declared.delimiter.Delimiter.TheVariants.{Semicolon, Dollars}
+use Rattle.splitter_forms.specs.declared.within.Within.{Within}
+use Rattle.splitter_forms.specs.declared.opening.Opening.TheVariants.{Statement}
 use Rattle.statement_splitter.specs.declared.scan.Scan.{Scan}
 use Rattle.statement_splitter.specs.declared.mark.Mark.{Mark}
 use Rattle.statement_splitter.specs.declared.mark.Likeness.{Likeness}

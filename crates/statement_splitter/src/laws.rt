@@ -1,7 +1,7 @@
 //! Laws of the calls of a splitter, and of whole files.
 ghost use Rattle.std.specs.Prelude.{◌≡◌, codes, Some, None};
 ghost use Rattle.statement_splitter.specs.Laws.{AGivenPieceIsTheFirst, NoneIsLost, TooLongStaysSo, quoting_file, quoting_pieces, delimited_file, delimited_pieces};
-ghost use Rattle.statement_splitter.specs.Pieces.{pieces, unread_file, begun_size, last};
+ghost use Rattle.splitter_forms.specs.Pieces.{pieces, unread_file, begun_size, last};
 
 /// A law: a statement that is given is the first of the file's, whatever bytes follow. Does nothing.
 #[inline]

@@ -5,7 +5,6 @@
 //! comments, or at the first line that has nothing but the dollars that were set.
 #![tactic(auto)]
 
-mod delimiter;
 mod laws;
 mod mark;
 mod opening;

@@ -1,10 +1,11 @@
 //! Where a mark stands: a byte, so many dollars, a byte.
 ghost use Rattle.std.specs.Prelude.{◌≡◌, ◌≢◌, ◌≤◌, length, ◌∷◌, [], ◌++◌, replicate};
 ghost use Rattle.statement_splitter.specs.State.{SearchesMark, Compares, dollar_mark};
-ghost use Rattle.statement_splitter.specs.Pieces.{mark_of};
+ghost use Rattle.splitter_forms.specs.Pieces.{mark_of};
 
-use crate::opening::{CommentEnd, dollar_count};
+use crate::opening::dollar_count;
 use crate::runs::{byte_until, rest_of};
+use splitter_forms::CommentEnd;
 
 // What a search for a mark found.
 #[derive(Clone, Copy)]

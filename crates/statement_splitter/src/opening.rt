@@ -1,32 +1,9 @@
 //! What begins between statements.
 ghost use Rattle.std.specs.Prelude.{◌≡◌, ◌≤◌, length};
 ghost use Rattle.std.specs.List.{prefix_len};
-ghost use Rattle.statement_splitter.specs.Pieces.{begins, is_front_of, is_dollar, delimiter_line, line_opening, dash_opening, slash_opening, opening};
+ghost use Rattle.splitter_forms.specs.Pieces.{begins, is_front_of, is_dollar, delimiter_line, line_opening, dash_opening, slash_opening, opening};
 
-use crate::delimiter::Delimiter;
-
-/// What ends a comment.
-#[derive(Clone, Copy)]
-pub enum CommentEnd {
-    LineFeed,
-    StarSlash,
-}
-
-/// What begins between statements.
-#[derive(Clone, Copy)]
-pub enum Opening {
-    /// There are no bytes.
-    Nothing,
-    /// A space, a tab, a line feed or a carriage return.
-    White,
-    /// A comment that begins with so many bytes.
-    Comment(usize, CommentEnd),
-    /// A line of so many bytes, which sets what ends a statement.
-    DelimiterLine(usize, Delimiter),
-    Statement,
-    /// What more bytes decide.
-    Undecided,
-}
+use splitter_forms::{CommentEnd, Delimiter, Opening};
 
 fn begins(word: &[u8], bytes: &[u8]) -> bool
     ensures { result ≡ begins word.now bytes.now }

@@ -1,15 +1,14 @@
 //! Where a splitter is in the bytes that it holds.
 ghost use Rattle.std.specs.Prelude.{◌≡◌, ◌+◌, ◌≤◌, ◌<◌, ◌^◌, length, Some};
-ghost use Rattle.statement_splitter.specs.Scan.{end_size};
-ghost use Rattle.statement_splitter.specs.Pieces.{mark_of, begun_size, last};
+ghost use Rattle.splitter_forms.specs.Scan.{end_size};
+ghost use Rattle.splitter_forms.specs.Pieces.{mark_of, begun_size, last};
 ghost use Rattle.statement_splitter.specs.State.{later_place, place_after_statement, unread_at, InComment, InStatement, IsPlaceWithin, Turns, Finds, least};
 
-use crate::delimiter::Delimiter;
 use crate::mark::{Mark, comment_end_from};
-use crate::opening::{CommentEnd, Opening, opening_of};
+use crate::opening::opening_of;
 use crate::runs::rest_of;
 use crate::scan::{Scan, end_from};
-use crate::within::Within;
+use splitter_forms::{CommentEnd, Delimiter, Opening, Within};
 
 // What is known of the bytes that come next.
 #[derive(Clone, Copy)]

@@ -2,10 +2,10 @@
 ghost use Rattle.std.specs.Prelude.{◌≡◌, ◌≤◌, length, drop};
 ghost use Rattle.memchr.specs.Find.{is_byte, is_byte2};
 ghost use Rattle.statement_splitter.specs.State.{Until, RunWithin};
-ghost use Rattle.statement_splitter.specs.declared.within.Within.TheVariants.{Text};
+ghost use Rattle.splitter_forms.specs.declared.within.Within.TheVariants.{Text};
 
-use crate::within::Within;
 use memchr::{memchr, memchr2};
+use splitter_forms::Within;
 
 // 1 at each byte that matters in a text: `"`, `#`, `'`, `-`, `/`, `;` and the backquote.
 static STOPS: [u8; 256] = [

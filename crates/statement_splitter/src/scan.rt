@@ -1,12 +1,12 @@
 //! Where a statement ends.
 ghost use Rattle.std.specs.Prelude.{◌≡◌, ◌≤◌, length};
 ghost use Rattle.statement_splitter.specs.State.{SearchesEnd};
-ghost use Rattle.statement_splitter.specs.declared.delimiter.Delimiter.TheVariants.{Semicolon};
+ghost use Rattle.splitter_forms.specs.declared.delimiter.Delimiter.TheVariants.{Semicolon};
 
-use crate::delimiter::Delimiter;
 use crate::mark::{Mark, mark_from};
 use crate::runs::plain_until;
-use crate::within::{Within, after_byte, is_end};
+use crate::within::{after_byte, is_end};
+use splitter_forms::{Delimiter, Within};
 
 // What a search for the end of a statement found.
 #[derive(Clone, Copy)]

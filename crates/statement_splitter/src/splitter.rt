@@ -2,11 +2,11 @@
 ghost use Rattle.std.specs.Prelude.{◌≡◌, ◌+◌, ◌≤◌, ◌^◌, [], length, drop, vec_len, OnOk, OnErr, MatchResult, None, Some};
 ghost use Rattle.std.specs.Borrow.{sem};
 ghost use Rattle.std.specs.Io.BufRead.{Rests};
-ghost use Rattle.statement_splitter.specs.Pieces.{unread_file, begun_size, last};
+ghost use Rattle.splitter_forms.specs.Pieces.{unread_file, begun_size, last};
 
-use crate::delimiter::Delimiter;
 use crate::place::{Begun, Found, Place, after_statement, begun_from, find, least_size};
 use plain_data::OutOfMemory;
+use splitter_forms::Delimiter;
 use std::alloc::Global;
 use std::marker::Model;
 use thiserror::Error;

@@ -1,5 +1,5 @@
 use Rattle.std.proofs.Common.{◌≡◌, ◌+◌, ◌-◌, ◌≤◌, List, [], ℕ, ◌++◌, length, take}
-use Rattle.statement_splitter.specs.Pieces.{with_more, pieces, unread_file}
+use Rattle.splitter_forms.specs.Pieces.{with_more, pieces, unread_file}
 use Rattle.statement_splitter.specs.Laws.{written}
 use Rattle.splitter_tests.proofs.whole_files.divided.Given as goal
 

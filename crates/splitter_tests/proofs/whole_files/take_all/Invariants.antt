@@ -1,5 +1,5 @@
 use Rattle.std.proofs.Common.{◌≡◌, ◌+◌, List, ℕ, ◌++◌, length}
-use Rattle.statement_splitter.specs.Pieces.{with_more, pieces}
+use Rattle.splitter_forms.specs.Pieces.{with_more, pieces}
 use Rattle.statement_splitter.specs.Laws.{written}
 use Rattle.splitter_tests.proofs.whole_files.take_all.Given as goal
 

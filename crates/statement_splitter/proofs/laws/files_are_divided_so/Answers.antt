@@ -1,5 +1,5 @@
 use Rattle.std.proofs.Common.{refl}
-use Rattle.statement_splitter.specs.Pieces.{pieces, next, last}
+use Rattle.splitter_forms.specs.Pieces.{pieces, next, last}
 use Rattle.statement_splitter.proofs.laws.files_are_divided_so.Goals as goal
 
 pub returns : goal.returns

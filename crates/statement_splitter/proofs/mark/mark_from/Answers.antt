@@ -1,5 +1,5 @@
 use Rattle.std.proofs.Common.{[], ◌∷◌, ◌++◌, replicate, arith}
-use Rattle.statement_splitter.specs.Scan.{before_mark}
+use Rattle.splitter_forms.specs.Scan.{before_mark}
 use Rattle.statement_splitter.specs.State.{dollar_mark}
 use Rattle.statement_splitter.proofs.Searches.{goes_further, goes_to_end}
 use Rattle.statement_splitter.proofs.Firsts.{none_after, mark_ends, mark_may, mark_not}

@@ -1,5 +1,5 @@
 use Rattle.std.proofs.Common.{◌-◌, length}
-use Rattle.statement_splitter.specs.Scan.{before_mark}
+use Rattle.splitter_forms.specs.Scan.{before_mark}
 use Rattle.statement_splitter.specs.State.{GoesOn, dollar_mark}
 use Rattle.statement_splitter.proofs.mark.mark_from.Given as goal
 

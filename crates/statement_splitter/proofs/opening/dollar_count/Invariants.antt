@@ -1,6 +1,6 @@
 use Rattle.std.proofs.Common.{◌≡◌, ◌+◌, drop}
 use Rattle.std.specs.List.{prefix_len}
-use Rattle.statement_splitter.specs.Pieces.{is_dollar}
+use Rattle.splitter_forms.specs.Pieces.{is_dollar}
 use Rattle.statement_splitter.proofs.opening.dollar_count.Given as goal
 
 abbrev pub invariant-loop-i : goal.invariant-loop-i

@@ -1,5 +1,5 @@
 use Rattle.std.proofs.Common.{◌≡◌, arith, sym, ap, ◌∙◌, Some, inl, inr}
-use Rattle.statement_splitter.specs.Pieces.{begun_size, last}
+use Rattle.splitter_forms.specs.Pieces.{begun_size, last}
 use Rattle.statement_splitter.specs.State.{unread_at}
 use Rattle.statement_splitter.proofs.Places.{given}
 use Rattle.statement_splitter.proofs.Wholes.{onward_now, gives_now, last_after, last_same, last_unended, last_waiting, last_none}

@@ -1,5 +1,5 @@
 use Rattle.std.proofs.Common.{◌≡◌, ◌-◌, length}
-use Rattle.statement_splitter.specs.Pieces.{last}
+use Rattle.splitter_forms.specs.Pieces.{last}
 use Rattle.statement_splitter.specs.State.{unread_at, IsPlaceWithin}
 use Rattle.statement_splitter.proofs.place.begun_from.Given as goal
 

@@ -1,5 +1,5 @@
 use Rattle.std.proofs.Common.{◌+◌, length, drop, refl}
-use Rattle.statement_splitter.specs.Pieces.{mark_of, ends_line}
+use Rattle.splitter_forms.specs.Pieces.{mark_of, ends_line}
 use Rattle.statement_splitter.specs.State.{unread_at}
 use Rattle.statement_splitter.proofs.Nexts.{comment_on, comment_open}
 use Rattle.statement_splitter.proofs.Places.{over, comment_passed, comment_known}

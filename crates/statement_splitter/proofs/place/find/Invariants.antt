@@ -1,5 +1,5 @@
 use Rattle.std.proofs.Common.{◌≡◌, ℕ, ◌+◌, ◌-◌, ◌≤◌, List, length}
-use Rattle.statement_splitter.specs.Pieces.{next, with_more}
+use Rattle.splitter_forms.specs.Pieces.{next, with_more}
 use Rattle.statement_splitter.specs.State.{unread_at, IsPlaceWithin}
 use Rattle.statement_splitter.proofs.place.find.Given as goal
 

@@ -1,5 +1,5 @@
 use Rattle.std.proofs.Common.{drop, refl, sym, ◌∙◌, arith, true, length-drop}
-use Rattle.statement_splitter.specs.Pieces.{ends_line}
+use Rattle.splitter_forms.specs.Pieces.{ends_line}
 use Rattle.statement_splitter.specs.State.{unread_at}
 use Rattle.statement_splitter.proofs.Places.{over, comment_begun, statement_begun, nothing_here, waiting_here, comment_bare, white_over, line_over, line_room}
 use Rattle.statement_splitter.proofs.Waits.{undecided_settles}

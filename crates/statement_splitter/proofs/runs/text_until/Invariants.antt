@@ -1,6 +1,6 @@
 use Rattle.std.proofs.Common.{ℕ, ◌<◌, ◌≤◌, get_or}
 use Rattle.statement_splitter.specs.State.{IsPlain}
-use Rattle.statement_splitter.specs.declared.within.Within.TheVariants.{Text}
+use Rattle.splitter_forms.specs.declared.within.Within.TheVariants.{Text}
 use Rattle.statement_splitter.proofs.runs.text_until.Given as goal
 
 abbrev pub invariant-loop-i : goal.invariant-loop-i

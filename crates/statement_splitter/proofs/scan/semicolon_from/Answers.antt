@@ -1,5 +1,5 @@
 use Rattle.std.proofs.Common.{◌<◌, ◌+◌, length, arith, sym, subst, ◌∙◌}
-use Rattle.statement_splitter.specs.Scan.{before_semicolon}
+use Rattle.splitter_forms.specs.Scan.{before_semicolon}
 use Rattle.statement_splitter.specs.State.{GoesOn}
 use Rattle.statement_splitter.proofs.Searches.{goes_further, goes_to_end, plain_goes, semicolon_here, semicolon_step}
 use Rattle.statement_splitter.proofs.scan.semicolon_from.Goals as goal

@@ -1,5 +1,5 @@
 use Rattle.std.proofs.Common.{◌-◌, length}
-use Rattle.statement_splitter.specs.Scan.{before_semicolon}
+use Rattle.splitter_forms.specs.Scan.{before_semicolon}
 use Rattle.statement_splitter.specs.State.{GoesOn}
 use Rattle.statement_splitter.proofs.scan.semicolon_from.Given as goal
 

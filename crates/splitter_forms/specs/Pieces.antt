@@ -2,13 +2,13 @@
 use Rattle.std.specs.Prelude.{◌≡◌, ◌≢◌, ℕ, zero, suc, ◌+◌, ◌-◌, slice_index, ◌<◌, ◌==◌, ◌&&◌, ◌||◌, not, nat_le, nat_eq, if◌then◌else◌, Bool, true, List, [], ◌∷◌, ◌++◌, length, take, drop, codes, Option, Some, None}
 use Rattle.std.specs.List.{starts_with, prefix_len}
 use Rattle.plain_data.specs.Byte.{is_white}
-use Rattle.statement_splitter.specs.Scan.{size_in, end_size, is_line, before_mark, plus}
-use Rattle.statement_splitter.specs.declared.delimiter.Delimiter.{Delimiter}
-use Rattle.statement_splitter.specs.declared.delimiter.Delimiter.TheVariants.{Semicolon, Dollars}
-use Rattle.statement_splitter.specs.declared.opening.Opening.{Opening}
-use Rattle.statement_splitter.specs.declared.opening.Opening.TheVariants.{Nothing, White, Comment, DelimiterLine, Statement, Undecided}
-use Rattle.statement_splitter.specs.declared.opening.CommentEnd.{CommentEnd}
-use Rattle.statement_splitter.specs.declared.opening.CommentEnd.TheVariants.{LineFeed, StarSlash}
+use Rattle.splitter_forms.specs.Scan.{size_in, end_size, is_line, before_mark, plus}
+use Rattle.splitter_forms.specs.declared.delimiter.Delimiter.{Delimiter}
+use Rattle.splitter_forms.specs.declared.delimiter.Delimiter.TheVariants.{Semicolon, Dollars}
+use Rattle.splitter_forms.specs.declared.opening.Opening.{Opening}
+use Rattle.splitter_forms.specs.declared.opening.Opening.TheVariants.{Nothing, White, Comment, DelimiterLine, Statement, Undecided}
+use Rattle.splitter_forms.specs.declared.opening.CommentEnd.{CommentEnd}
+use Rattle.splitter_forms.specs.declared.opening.CommentEnd.TheVariants.{LineFeed, StarSlash}
 
 -- the bytes begin with the word
 abbrev pub begins : List ℕ → List ℕ → Bool

@@ -1,10 +1,10 @@
 -- Where a statement ends (MySQL 8.0 Reference Manual, 6.5.1.2 "mysql Client Commands", 11.1.1 "String Literals", 11.2 "Schema Object Names", 11.7 "Comments").
 use Rattle.std.specs.Prelude.{ℕ, ◌+◌, ◌==◌, ◌&&◌, ◌||◌, if◌then◌else◌, Bool, true, false, List, [], ◌∷◌, ◌++◌, replicate, Option, Some, None, nat_eq}
 use Rattle.std.specs.List.{starts_with}
-use Rattle.statement_splitter.specs.declared.delimiter.Delimiter.{Delimiter}
-use Rattle.statement_splitter.specs.declared.delimiter.Delimiter.TheVariants.{Semicolon, Dollars}
-use Rattle.statement_splitter.specs.declared.within.Within.{Within}
-use Rattle.statement_splitter.specs.declared.within.Within.TheVariants.{Text, Dash, Dashes, Slash, Opened, Comment, Star, Line, Quoted, Escaped, Name}
+use Rattle.splitter_forms.specs.declared.delimiter.Delimiter.{Delimiter}
+use Rattle.splitter_forms.specs.declared.delimiter.Delimiter.TheVariants.{Semicolon, Dollars}
+use Rattle.splitter_forms.specs.declared.within.Within.{Within}
+use Rattle.splitter_forms.specs.declared.within.Within.TheVariants.{Text, Dash, Dashes, Slash, Opened, Comment, Star, Line, Quoted, Escaped, Name}
 
 -- where the next byte stands after a byte of a text
 abbrev pub after_text : ℕ → Within
