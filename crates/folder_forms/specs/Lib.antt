@@ -1,1 +1,3 @@
 pub mod FileName
+pub mod LoadOrder
+pub mod Metadata

@@ -1,4 +1,14 @@
+pub mod Appended
+pub mod CleanLines
+pub mod CutTexts
+pub mod Days
+pub mod DecimalTexts
+pub mod Fronts
+pub mod HeadFronts
+pub mod LineTexts
 pub mod NumberTexts
 pub mod Parts
 pub mod Spelled
+pub mod TableLists
 pub mod Texts
+pub mod TimeTexts

@@ -15,7 +15,7 @@ padded_value : (k : ℕ) (ds : List ℕ) → digits_value 10 (replicate k 48 ++ 
 padded_value zero ds = refl
 padded_value (suc k) ds = padded_value k ds
 
-file_digits : (n : ℕ) → n < 2 ^ 32 → AllDigits 10 (file_number n)
+pub file_digits : (n : ℕ) → n < 2 ^ 32 → AllDigits 10 (file_number n)
 file_digits n small = padded_digits (5 - length (decimal n)) (decimal n) (decimal_is_IsNumeral n (omega arith)).0.1
 
 file_value : (n : ℕ) → n < 2 ^ 32 → digits_value 10 (file_number n) ≡ n

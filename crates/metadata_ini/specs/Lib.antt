@@ -1,3 +1,9 @@
+pub mod Cut
 pub mod Division
 pub mod Fault
+pub mod Line
+pub mod Reading
 pub mod Spelling
+pub mod Tables
+pub mod Time
+pub mod Writing

@@ -24,3 +24,28 @@ impl From<OutOfMemory> for NameFault {
         NameFault::OutOfMemory
     }
 }
+
+/// Why `metadata` isn't read.
+#[derive(Clone, Copy, Debug, PartialEq, Eq, Error)]
+pub enum MetadataFault {
+    /// It is of another version than 1 and 2.
+    #[error("metadata version {0} is not supported")]
+    WrongVersion(u32),
+    /// That line, from 1, is the first with which no `metadata` goes on; one past the last ended line
+    /// where the text ends too early or within a line.
+    #[error("bad line {0} in metadata")]
+    BadLine(u64),
+    /// Memory ran out.
+    #[error("out of memory")]
+    OutOfMemory,
+}
+
+impl From<OutOfMemory> for MetadataFault {
+    ghost use Rattle.metadata_ini.specs.declared.fault.MetadataFault.{MetadataFault};
+
+    ghost from_gives = { λ _ fault. fault ≡ MetadataFault.OutOfMemory };
+
+    fn from(_: OutOfMemory) -> MetadataFault {
+        MetadataFault::OutOfMemory
+    }
+}

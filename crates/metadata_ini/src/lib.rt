@@ -7,11 +7,19 @@
 //! - `fault`: why a name isn't read.
 #![tactic(auto)]
 
+mod cuts;
+mod decimals;
 mod division;
 mod fault;
+mod file_lines;
 mod file_name;
+mod heads;
 mod numbers;
 mod spelling;
+mod tables;
+mod times;
+mod writing;
 
-pub use fault::NameFault;
+pub use fault::{MetadataFault, NameFault};
 pub use file_name::{FileNameText, one_file};
+pub use writing::write_into;

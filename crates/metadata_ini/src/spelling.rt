@@ -1,5 +1,5 @@
 //! Names as they are spelled in names of files.
-ghost use Rattle.std.specs.Prelude.{◌≡◌, ◌≢◌, ◌≤◌, [], ◌++◌, length, IsUtf8, IfErr, IfOk, OnOk, OnErr, MatchOption};
+ghost use Rattle.std.specs.Prelude.{◌≡◌, ◌≢◌, ◌≤◌, true, false, [], ◌++◌, length, IsUtf8, IfErr, IfOk, OnOk, OnErr, MatchOption};
 ghost use Rattle.server_data.specs.Names.{escaped_name, file_name_byte, lower_digit, stands_as_it_is};
 ghost use Rattle.metadata_ini.specs.Spelling.{IsDigit, IsFront, IsNoFront, IsSpelt, SpellsNone, SpellsNoName};
 ghost use Rattle.metadata_ini.specs.Fault.{IsNoName};
@@ -15,6 +15,14 @@ pub(crate) fn append(bytes: &[u8], out: &mut Buffer) -> Result<(), OutOfMemory>
     out.reserve(bytes.len())?;
     out.push(bytes);
     Ok(())
+}
+
+/// Whether two texts are the same.
+pub(crate) fn is_same(text: &[u8], other: &[u8]) -> bool
+    ensures yes { result ≡ true → text.now ≡ other.now }
+    ensures no { result ≡ false → text.now ≢ other.now }
+{
+    text == other
 }
 
 // Whether a byte stands for itself: a letter, a digit or `_` of ASCII.
