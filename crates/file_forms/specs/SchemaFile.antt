@@ -1,5 +1,5 @@
 -- The schema files of a dump, each of which has the text of one object (MySQL 8.0 Reference Manual, 6.5.1.2 "mysql Client Commands" on DELIMITER).
-use Rattle.std.specs.Prelude.{ℕ, ◌≡◌, ◌≤◌, ◌<◌, ◌+◌, ◌==◌, ◌&&◌, Bool, true, false, List, [], ◌∷◌, ◌++◌, replicate, codes, Option, Some, None, unwrap_or, bytes_eq}
+use Rattle.std.specs.Prelude.{ℕ, ◌≡◌, ◌≤◌, ◌<◌, ◌+◌, ◌==◌, ◌&&◌, Bool, true, false, List, [], ◌∷◌, ◌++◌, replicate, codes, Option, Some, None, option_map, unwrap_or, bytes_eq}
 use Rattle.honest_server.specs.WellFormed.{HasItsHead, HasItsSettings, HasItsShape}
 use Rattle.object_forms.specs.Head.{Path, trigger_table}
 use Rattle.object_forms.specs.Shape.{name_value}
@@ -88,7 +88,7 @@ pub record NeedsNamedTable (object : Object) : Type 0 where
   pub found : Path
   pub is_found : trigger_table object.text ≡ Some found
   pub needs : object.needs ≡ record {
-    schema = name_value (unwrap_or found.schema object.schema);
+    schema = unwrap_or (option_map name_value found.schema) object.schema;
     name = name_value found.name;
   } ∷ []
 

@@ -1,9 +1,12 @@
 -- The data file that is written for rows of a table.
-use Rattle.std.specs.Prelude.{ℕ, ◌+◌, ◌-◌, nat_le, if◌then◌else◌, List, [], ◌∷◌, ◌++◌, length, take, fold, codes}
+use Rattle.std.specs.Prelude.{map, ◌&&◌, Bool, true, false, option_map, ℕ, ◌+◌, ◌-◌, nat_le, if◌then◌else◌, List, [], ◌∷◌, ◌++◌, length, take, fold, codes}
 use Rattle.std.specs.List.{join_with_byte}
 use Rattle.file_forms.specs.DataFile.{data_front}
 use Rattle.plain_data.specs.Cell.{Cell}
-use Rattle.sql_cells.specs.Literal.{literal}
+use Rattle.honest_server.specs.Insert.{Insertion, SpelledCell}
+use Rattle.sql_cells.specs.Cell.{bytes_of}
+use Rattle.sql_cells.specs.Literal.{has_literal, literal}
+use Rattle.sql_cells.specs.declared.cell.Cell.{Cell as SqlCell}
 use Rattle.sql_cells.specs.Name.{quoted_name}
 use Rattle.sql_cells.specs.declared.cell_kind.CellKind.{CellKind}
 use Rattle.statement_forms.specs.Text.{names}
@@ -17,6 +20,10 @@ literals_of (kind ∷ kinds) (cell ∷ cells) = literal kind cell ∷ literals_o
 -- a row: its literals between parentheses, with commas between them
 abbrev pub written_row : List CellKind → List Cell → List ℕ
 written_row kinds cells = codes "(" ++ join_with_byte 44 (literals_of kinds cells) ++ codes ")"
+
+-- the rows as they are written, each by the kinds of its columns
+abbrev pub texts_of_rows : List CellKind → List (List SqlCell) → List (List ℕ)
+texts_of_rows kinds rows = map (λ row. written_row kinds (map bytes_of row)) rows
 
 -- what an INSERT begins with: the table and the columns
 abbrev pub insert_front : List ℕ → List (List ℕ) → List ℕ
@@ -51,3 +58,28 @@ data_text head most (row ∷ rows) = (written_rows head most row rows).bytes ++ 
 -- the bytes of a file so far that come before its last statement
 abbrev pub before_last : DataText → List ℕ
 before_last text = take (length text.bytes - text.size) text.bytes
+
+-- The same rows as a file spells them.
+
+-- the row has a cell for each kind, which has a literal of that kind
+abbrev pub is_row_of_kinds : List CellKind → List SqlCell → Bool
+is_row_of_kinds [] [] = true
+is_row_of_kinds [] (cell ∷ cells) = false
+is_row_of_kinds (kind ∷ kinds) [] = false
+is_row_of_kinds (kind ∷ kinds) (cell ∷ cells) =
+    has_literal kind (bytes_of cell) && is_row_of_kinds kinds cells
+
+-- a cell, spelled as a literal of this kind; NULL is of none
+abbrev pub spelled_cell : CellKind → SqlCell → SpelledCell
+spelled_cell kind cell = record { cell = cell; kind = option_map (λ _. kind) (bytes_of cell) }
+
+-- the cells of a row, spelled by the kinds of their columns
+abbrev pub spelled_row : List CellKind → List SqlCell → List SpelledCell
+spelled_row [] cells = []
+spelled_row (kind ∷ kinds) [] = []
+spelled_row (kind ∷ kinds) (cell ∷ cells) = spelled_cell kind cell ∷ spelled_row kinds cells
+
+-- what the file of these rows says
+abbrev pub insertion_of : List (List ℕ) → List CellKind → List (List SqlCell) → Insertion
+insertion_of columns kinds rows =
+    record { columns = columns; rows = map (spelled_row kinds) rows }
