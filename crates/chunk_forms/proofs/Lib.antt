@@ -1,0 +1,4 @@
+pub mod Orders
+pub mod Chunks
+pub mod Cuts
+pub mod KeyKinds
