@@ -1,3 +1,4 @@
+pub mod After
 pub mod Agreements
 pub mod Fronts
 pub mod Matching

@@ -1,3 +1,4 @@
+pub mod After
 pub mod Members
 pub mod Parts
 pub mod Step

@@ -1,5 +1,5 @@
 //! Whether two databases agree.
-ghost use Rattle.std.specs.Prelude.{◌≡◌, ◌↔◌, IsTrue, count_by};
+ghost use Rattle.std.specs.Prelude.{◌≡◌, ◌≤◌, ◌+◌, ◌^◌, ◌↔◌, IsTrue, count_by};
 ghost use Rattle.std.specs.List.{list_all};
 ghost use Rattle.server_data.specs.Agree.{Agree, comes_before, is_before, is_trigger_named, object_eq, settings_eq};
 ghost use Rattle.server_data.specs.Bag.{count_of};
@@ -251,14 +251,16 @@ fn same_row(one: &Database, other: &Database, schema: &[u8], name: &[u8], row: &
 
 // How often the row stands in the table.
 #[tactic(auto, unfolding(server_data::specs::Fold::rows_of))]
-fn count_row(database: &Database, schema: &[u8], name: &[u8], row: &[Cell]) -> u128
-    ensures { result ≡ count_of row.now (rows_of database.now schema.now name.now) }
+pub(crate) fn count_row(database: &Database, schema: &[u8], name: &[u8], row: &[Cell]) -> u128
+    ensures count { result ≡ count_of row.now (rows_of database.now schema.now name.now) }
+    ensures bound { result + 2 ^ 64 ≤ 2 ^ 128 }
 {
     count_in_tables(database.rows.as_slice(), schema, name, row)
 }
 
 fn count_in_tables(tables: &[TableRows], schema: &[u8], name: &[u8], row: &[Cell]) -> u128
-    ensures { result ≡ count_of row.now (rows_in schema.now name.now tables.now) }
+    ensures count { result ≡ count_of row.now (rows_in schema.now name.now tables.now) }
+    ensures bound { result + 2 ^ 64 ≤ 2 ^ 128 }
 {
     let tables_size = tables.len();
     let mut count: u128 = 0;

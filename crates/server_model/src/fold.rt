@@ -27,7 +27,7 @@ pub fn replay(alloc: Global, history: &History) -> Result<Option<Database>, OutO
     };
     let mut left = history.as_slice();
     'history: while let [transaction, rest @ ..] = left {
-        if !apply_all(alloc, &mut database, transaction.changes.as_slice())? {
+        if !apply_changes(alloc, &mut database, transaction.changes.as_slice())? {
             return Ok(None);
         }
         left = rest;
@@ -35,8 +35,10 @@ pub fn replay(alloc: Global, history: &History) -> Result<Option<Database>, OutO
     Ok(Some(database))
 }
 
-// Whether the changes fit, one by one. Where they do, the database is the one after them.
-fn apply_all(
+/// Makes the changes one by one, and answers whether they fit. Where they do, the database is the one
+/// after them; where they don't, or memory runs out, it isn't said what it holds then. It is refused only
+/// for want of memory. `may_apply` tells beforehand whether they fit.
+pub fn apply_changes(
     alloc: Global,
     database: &mut Database,
     changes: &[Change],
@@ -217,7 +219,7 @@ fn has_any_in(database: &Database, schema: &[u8]) -> bool
     objects.iter().any(|object| stands_in(schema, object))
 }
 
-fn stands_in(schema: &[u8], object: &Object) -> bool
+pub(crate) fn stands_in(schema: &[u8], object: &Object) -> bool
     ensures { result ≡ stands_in schema.now object.now }
 {
     are_bytes(object.schema.as_slice(), schema) && !is_kind(object.kind, Kind::Schema)
@@ -233,7 +235,7 @@ fn fits_row(database: &Database, schema: &[u8], name: &[u8], row: &[Cell]) -> bo
         .any(|object| takes_row(schema, name, cells, object))
 }
 
-fn takes_row(schema: &[u8], name: &[u8], cells: usize, object: &Object) -> bool
+pub(crate) fn takes_row(schema: &[u8], name: &[u8], cells: usize, object: &Object) -> bool
     ensures { result ≡ takes_row schema.now name.now cells object.now }
 {
     is_object(Kind::Table, schema, name, object) && plain_count(object.columns.as_slice()) == cells

@@ -8,5 +8,5 @@ tables-preserved c = record {
   bound = bound_step c.tables.left.now c.tables.count c.count_in_table.result _ c.in-len1-up.len_at_least (omega arith) c.tables.invariant.bound;
 }
 
-pub returns : goal.returns
-returns c = count_end c.args.row.now c.args.schema.now c.args.name.now c.tables.left.now c.tables.count _ c.in_default.len_below c.tables.invariant.told
+pub returns-clause-count : goal.returns-clause-count
+returns-clause-count c = count_end c.args.row.now c.args.schema.now c.args.name.now c.tables.left.now c.tables.count _ c.in_default.len_below c.tables.invariant.told
