@@ -1,0 +1,5 @@
+mod Commands
+mod Each
+mod Matching
+mod Numerals
+mod Stages

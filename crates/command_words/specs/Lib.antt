@@ -1,0 +1,9 @@
+pub mod Meant
+pub mod Options
+pub mod Matches
+pub mod Numbers
+pub mod Values
+pub mod Entries
+pub mod Login
+pub mod Dump
+pub mod Load

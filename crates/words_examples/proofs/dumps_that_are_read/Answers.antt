@@ -1,0 +1,15 @@
+use Rattle.std.proofs.Common.{refl}
+use Rattle.clap.proofs.OnLiterals.{clap_on_literals}
+use Rattle.command_words.specs.Dump.{dump_command}
+use Rattle.command_words.specs.Matches.{matched}
+use Rattle.words_examples.proofs.dumps_that_are_read.Goals as goal
+
+pub returns : goal.returns
+unfolding clap_on_literals matched dump_command
+returns c = record {
+  defaults = refl;
+  by_name = refl;
+  account = refl;
+  bundle = refl;
+  only_database = refl;
+}

@@ -1,0 +1,14 @@
+use Rattle.std.proofs.Common.{refl}
+use Rattle.clap.proofs.OnLiterals.{clap_on_literals}
+use Rattle.command_words.specs.Load.{load_command}
+use Rattle.command_words.specs.Matches.{matched}
+use Rattle.words_examples.proofs.loads_that_are_read.Goals as goal
+
+pub returns : goal.returns
+unfolding clap_on_literals matched load_command
+returns c = record {
+  defaults = refl;
+  flags = refl;
+  one = refl;
+  renamed = refl;
+}
