@@ -54,14 +54,18 @@ pub record WorkerView (L : Type 0) : Type 0 where
   pub fault : Option SessionFault
 
 module _ {L : Type 0} (of : Ghosts L) where
-  -- a command was run on a session
-  pub record Ran (command : Command) (old : SessionView L) (result : Result (Unit {0}) SessionFault)
-      (new : SessionView L) : Type 0 where
+  -- a command was run on a session, beside the holder of the read lock where one is lent
+  pub record RanBy (holder : Option L) (command : Command) (old : SessionView L)
+      (result : Result (Unit {0}) SessionFault) (new : SessionView L) : Type 0 where
     pub keeps : KeepsSession of old new result
     pub pending : new.pending.reading ≡ idle new.peer.ends
     pub fault : RunFaults command result
     pub served : of.honest old.link →
-        ServesRun of None command (place_of of old) result new.link
+        ServesRun of holder command (place_of of old) result new.link
+
+  -- a command was run plainly
+  abbrev pub Ran : Command → SessionView L → Result (Unit {0}) SessionFault → SessionView L → Type 0
+  Ran command old result new = RanBy None command old result new
 
   -- at Ok the view of the worker's link is what the holder's has seen
   abbrev pub ShowsSeen : L → Result (Unit {0}) SessionFault → L → Type 0

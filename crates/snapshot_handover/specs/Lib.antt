@@ -1,1 +1,3 @@
 pub mod Handover
+pub mod Reads
+pub mod Snapshots

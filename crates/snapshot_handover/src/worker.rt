@@ -1,8 +1,8 @@
 //! The workers of a dump.
-ghost use Rattle.std.specs.Prelude.{◌≡◌, false, Some, None, OnOk};
-ghost use Rattle.my_session.specs.InStep.{ServesRun};
-ghost use Rattle.my_session.specs.Session.{IsFree, KeepsSession, RunFaults, place_of, reader_view};
-ghost use Rattle.snapshot_handover.specs.Handover.{MayShow, Ran, ShowsSeen, WorkerView};
+ghost use Rattle.std.specs.Prelude.{◌≡◌, ◌||◌, false, Some, None, OnOk, is_some};
+ghost use Rattle.my_session.specs.Session.{IsFree, reader_view};
+ghost use Rattle.snapshot_handover.specs.Handover.{MayShow, Ran, RanBy, ShowsSeen, WorkerView};
+ghost use Rattle.snapshot_handover.specs.Snapshots.{HasSnapshot, MayOpen, Opens};
 ghost use Rattle.statement_forms.specs.declared.command.Command.TheVariants.{RepeatableRead, StartSnapshot};
 
 use crate::states::Frozen;
@@ -14,7 +14,7 @@ use std::marker::Model;
 /// A session that reads rows, and the fault at which its snapshot wasn't opened.
 #[derive(Drop)]
 pub struct Worker<L: Link> {
-    session: Session<L>,
+    pub(crate) session: Session<L>,
     fault: Option<SessionFault>,
 }
 
@@ -66,11 +66,11 @@ impl<L: Link> Worker<L> {
         requires one_site { L.honest self.old.session.link →
             L.same_origin self.old.session.link holder.now.link }
 
-        ensures keeps { KeepsSession L.Link self.old.session self.new.session result }
+        ensures ran { RanBy L.Link (Some holder.now.link) StartSnapshot self.old.session result
+            self.new.session }
         ensures fault { self.new.fault ≡ self.old.fault }
-        ensures failing { RunFaults StartSnapshot result }
-        ensures served { L.honest self.old.session.link → ServesRun L.Link (Some holder.now.link)
-            StartSnapshot (place_of L.Link self.old.session) result self.new.session.link }
+        ensures may { L.honest self.new.session.link →
+            MayShow (L.served self.new.session.link).state }
         ensures shows { L.honest self.old.session.link →
             ShowsSeen L.Link holder.now.link result self.new.session.link }
     {
@@ -80,11 +80,39 @@ impl<L: Link> Worker<L> {
             .run_beside(&holder.session, &Command::StartSnapshot)
     }
 
-    /// Whether its session has failed. Takes no memory.
-    pub fn failed(&self) -> bool
-        ensures { result ≡ self.now.session.has_failed }
+    /// Opens its snapshot beside the session that holds the read lock, once it is set to read repeatably.
+    /// Where one of the two fails, it keeps the fault. The conditions are that it and the holder are free,
+    /// that it has kept no fault, and that on an honest link both are of one site. Takes no memory.
+    pub(crate) fn open(&mut self, holder: &Frozen<L>)
+        requires alive { holder.now.has_failed ≡ false }
+        requires may { MayOpen L.Link holder.now.link self.old }
+
+        ensures opens { Opens L.Link holder.now.link self.old self.new }
+        ensures has { self.new.fault ≡ None → HasSnapshot L.Link holder.now.link self.new }
     {
-        self.session.failed()
+        match self.isolate() {
+            Ok(()) => {
+                if let Err(fault) = self.open_beside(holder) {
+                    self.fault = Some(fault);
+                }
+            }
+            Err(fault) => self.fault = Some(fault),
+        }
+    }
+
+    /// The fault that it has kept. Takes no memory.
+    pub(crate) fn kept(&self) -> Option<SessionFault>
+        ensures { result ≡ self.now.fault }
+    {
+        self.fault
+    }
+
+    /// Whether its session has failed, or it has kept the fault at which its snapshot wasn't opened. Takes
+    /// no memory.
+    pub fn failed(&self) -> bool
+        ensures { result ≡ (self.now.session.has_failed || is_some self.now.fault) }
+    {
+        self.session.failed() || self.fault.is_some()
     }
 
     /// The session, as it is. Sends nothing, and takes no memory.

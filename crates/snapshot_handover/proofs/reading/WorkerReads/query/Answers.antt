@@ -1,0 +1,7 @@
+use Rattle.snapshot_handover.proofs.Asking.{asked_worker}
+use Rattle.snapshot_handover.proofs.reading.WorkerReads.query.Goals as goal
+
+pub invariant_of-self : goal.invariant_of-self
+invariant_of-self g c = λ honest.
+    let was = c.query.ensures.server.honest.1 honest in
+    asked_worker _ _ _ _ (c.query.ensures.served was) (c.self.invariant was)
