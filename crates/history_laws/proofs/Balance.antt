@@ -27,12 +27,12 @@ use Rattle.history_laws.specs.Laws.{InterleavingsAgree, ListsThatPutRowsCommute,
 use Rattle.plain_data.proofs.Options.{same_some}
 
 -- how often a row counts as the other: once or not at all
-abbrev alike : List Cell → List Cell → ℕ
+abbrev pub alike : List Cell → List Cell → ℕ
 alike row other = cond (row_eq row other) 1 0
 
 -- rows are counted one by one, and in lists one after the other
 
-count_front : (row one : List Cell) (others : Rows) → count_of row (one ∷ others) ≡ alike row one + count_of row others
+pub count_front : (row one : List Cell) (others : Rows) → count_of row (one ∷ others) ≡ alike row one + count_of row others
 unfolding count_of
 count_front row one others = sum_by-cons (λ (other : List Cell). alike row other) one others
 
@@ -68,16 +68,16 @@ count_without row other (one ∷ rows) rest e = by_test (row_eq other one) refl 
 
 -- how often a change puts the row into the table, and how often it takes it away
 
-abbrev into : List ℕ → List ℕ → List Cell → List ℕ → List ℕ → List Cell → ℕ
+abbrev pub into : List ℕ → List ℕ → List Cell → List ℕ → List ℕ → List Cell → ℕ
 into schema name row other_schema other_name other = cond (bytes_eq other_schema schema && bytes_eq other_name name) (alike row other) 0
 
-abbrev put_by : List ℕ → List ℕ → List Cell → Change → ℕ
+abbrev pub put_by : List ℕ → List ℕ → List Cell → Change → ℕ
 put_by schema name row (Make object) = 0
 put_by schema name row (Drop kind other_schema other_name) = 0
 put_by schema name row (Put other_schema other_name other) = into schema name row other_schema other_name other
 put_by schema name row (Remove other_schema other_name other) = 0
 
-abbrev taken_by : List ℕ → List ℕ → List Cell → Change → ℕ
+abbrev pub taken_by : List ℕ → List ℕ → List Cell → Change → ℕ
 taken_by schema name row (Make object) = 0
 taken_by schema name row (Drop kind other_schema other_name) = 0
 taken_by schema name row (Put other_schema other_name other) = 0
@@ -91,11 +91,11 @@ abbrev taken_in : List ℕ → List ℕ → List Cell → Transaction → ℕ
 taken_in schema name row one = sum_by (taken_by schema name row) one.changes
 
 -- the same objects, and of each row as many as there were, and were put, and weren't taken away
-record Balance (old new : Database) (put taken : List ℕ → List ℕ → List Cell → ℕ) : Type 0 where
-  objects : new.objects ≡ old.objects
-  counts : (schema name : List ℕ) (row : List Cell) → count_of row (rows_of new schema name) + taken schema name row ≡ count_of row (rows_of old schema name) + put schema name row
+pub record Balance (old new : Database) (put taken : List ℕ → List ℕ → List Cell → ℕ) : Type 0 where
+  pub objects : new.objects ≡ old.objects
+  pub counts : (schema name : List ℕ) (row : List Cell) → count_of row (rows_of new schema name) + taken schema name row ≡ count_of row (rows_of old schema name) + put schema name row
 
-put_balance : (old new : Database) (schema name : List ℕ) (other : List Cell) → change_db old (Put schema name other) ≡ Some new
+pub put_balance : (old new : Database) (schema name : List ℕ) (other : List Cell) → change_db old (Put schema name other) ≡ Some new
     → Balance old new (λ s n row. put_by s n row (Put schema name other)) (λ s n row. taken_by s n row (Put schema name other))
 unfolding change_db
 put_balance old new schema name other fits = record {
@@ -109,7 +109,7 @@ put_balance old new schema name other fits = record {
       omega arith;
 }
 
-remove_balance : (old new : Database) (schema name : List ℕ) (other : List Cell) → change_db old (Remove schema name other) ≡ Some new
+pub remove_balance : (old new : Database) (schema name : List ℕ) (other : List Cell) → change_db old (Remove schema name other) ≡ Some new
     → Balance old new (λ s n row. put_by s n row (Remove schema name other)) (λ s n row. taken_by s n row (Remove schema name other))
 unfolding rows_of
 remove_balance old new schema name other fits = record {

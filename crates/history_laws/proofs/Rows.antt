@@ -230,7 +230,7 @@ remove_step takes schema name row is now state middle same fits =
         rw (← bytes_are schema other_schema (and_left _ _ this), ← bytes_are name other_name (and_right (bytes_eq schema other_schema) _ this)) first
 
 -- a change of a row of the tables that are taken
-step : (takes : List ℕ → List ℕ → Bool) (change : Change) → changes_row takes change ≡ true → (now state middle : Database) → Alike takes now state → change_db now change ≡ Some middle
+pub step : (takes : List ℕ → List ℕ → Bool) (change : Change) → changes_row takes change ≡ true → (now state middle : Database) → Alike takes now state → change_db now change ≡ Some middle
     → Follows takes middle state (change_db state change)
 step takes (Make object) is now state middle same fits = absurd (false≢true is)
 step takes (Drop kind schema name) is now state middle same fits = absurd (false≢true is)
