@@ -1,3 +1,5 @@
 pub mod Handover
 pub mod Reads
 pub mod Snapshots
+pub mod Status
+pub mod StatusRead

@@ -2,9 +2,11 @@
 #![tactic(auto)]
 
 mod laws;
+mod position;
 mod reading;
 mod snapshots;
 mod states;
+mod status;
 mod step;
 mod worker;
 
