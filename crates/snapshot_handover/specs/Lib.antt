@@ -3,3 +3,4 @@ pub mod Reads
 pub mod Snapshots
 pub mod Status
 pub mod StatusRead
+pub mod Willing

@@ -5,6 +5,7 @@ use Rattle.my_session.specs.Session.{IsFree, SessionView, reader_view}
 use Rattle.my_session.specs.declared.fault.SessionFault.{SessionFault}
 use Rattle.statement_forms.specs.declared.command.Command.TheVariants.{RepeatableRead, StartSnapshot}
 use Rattle.snapshot_handover.specs.Handover.{MayShow, Ran, RanBy, WorkerView}
+use Rattle.snapshot_handover.specs.Willing.{IsHindered, MayJoin}
 
 -- none of the workers before this number has kept a fault
 abbrev pub NoneKeptBefore : {L : Type 0} → List (WorkerView L) → ℕ → Type 0
@@ -36,12 +37,15 @@ module _ {L : Type 0} (of : Ghosts L) where
     pub isolates : Ran of RepeatableRead old (Ok tt) middle
     pub opens : RanBy of (Some holder) StartSnapshot middle (Ok tt) new
 
-  -- one of the two failed
+  -- one of the two failed, and what hindered it
   pub data FailsToOpen (holder : L) (old : SessionView L) (fault : SessionFault)
       (new : SessionView L) : Type 0 where
-    at_isolation : Ran of RepeatableRead old (Err fault) new → FailsToOpen holder old fault new
+    at_isolation : Ran of RepeatableRead old (Err fault) new → IsHindered of old new.link →
+        FailsToOpen holder old fault new
     at_start : (middle : SessionView L) → Ran of RepeatableRead old (Ok tt) middle →
         RanBy of (Some holder) StartSnapshot middle (Err fault) new →
+        (MayJoin (of.served holder).state (of.served old.link).state →
+        IsHindered of middle new.link) →
         FailsToOpen holder old fault new
 
   -- what a session did that kept this fault, or none

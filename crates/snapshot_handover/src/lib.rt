@@ -1,4 +1,10 @@
-//! The locks of a dump's lock session, as types: the backup lock, then the read lock, and back.
+//! What a consistent dump stands on. The locks of its lock session are types: the backup lock, then
+//! the read lock, and back. While the read lock is held, the position of the binary log is asked
+//! for, and the snapshots of workers are opened, each of which shows just what the lock session has
+//! seen.
+//!
+//! A session is handed back where a step fails. No call takes memory but `Frozen::position`, and
+//! `query` and `next_row` of a reader.
 #![tactic(auto)]
 
 mod laws;

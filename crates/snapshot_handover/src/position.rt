@@ -104,18 +104,19 @@ pub(crate) fn read_status<R: Reads>(
 }
 
 impl<L: Link> Frozen<L> {
-    /// Asks for the position of the binary log: `SHOW BINARY LOG STATUS` where the greeting said that the
-    /// server is of version 8.2 or newer, and else `SHOW MASTER STATUS`. `None` exactly where no row comes.
-    /// The first cell of the only row is the file, the second the offset, and the fifth the GTID set, of
-    /// which line feeds are left out: the file isn't empty, its bytes and those of the GTID set are from
-    /// 20 to 7e, and the offset is a decimal number below 2^64, without sign and without leading zeros.
-    /// Any other row, and a second one, is `Garbled` at its place. Over an honest server it is the position
-    /// after the last transaction that this session has seen, of which nothing changes, and never
-    /// `Garbled`; a willing server never refuses it. Every other fault is one of those of the query and
-    /// of its rows. The session is free after `Ok` and after `Refused`; after any other fault nothing is
-    /// to be asked of it any more. The conditions are that the session hasn't failed and that no rows are
-    /// pending. (MySQL 8.0 Reference Manual, 15.7.7.23 "SHOW MASTER STATUS Statement"; MySQL 8.4 Reference
-    /// Manual, 15.7.7.1 "SHOW BINARY LOG STATUS Statement".)
+    /// Asks for the position of the binary log: `SHOW BINARY LOG STATUS` where the greeting said
+    /// that the server is of version 8.2 or newer, and else `SHOW MASTER STATUS`. `None` exactly
+    /// where no row comes. The first cell of the only row is the file, the second the offset, and
+    /// the fifth the GTID set, of which line feeds are left out: the file isn't empty, its bytes
+    /// and those of the GTID set are from 20 to 7e, and the offset is a decimal number below 2^64,
+    /// without sign and without leading zeros. Any other row, and a second one, is `Garbled` at its
+    /// place. Over an honest server it is the position after the last transaction that this session
+    /// has seen, of which nothing changes, and never `Garbled`; a willing server never refuses it.
+    /// Every other fault is one of those of the query and of its rows. The session is free after
+    /// `Ok` and after `Refused`; after any other fault nothing is to be asked of it any more. The
+    /// conditions are that the session hasn't failed and that no rows are pending. (MySQL 8.0
+    /// Reference Manual, 15.7.7.23 "SHOW MASTER STATUS Statement"; MySQL 8.4 Reference Manual,
+    /// 15.7.7.1 "SHOW BINARY LOG STATUS Statement".)
     pub fn position(&mut self, alloc: Global) -> Result<Option<Position>, SessionFault>
         requires free { IsFree (reader_view L.Link self.old) }
 

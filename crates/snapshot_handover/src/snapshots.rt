@@ -11,13 +11,17 @@ use std::thread;
 use std::thread::Threads;
 
 impl<L: Link + Send + Sync> Frozen<L> {
-    /// Opens the snapshots of workers, each in a thread of its own, while this session is lent: after `Ok`
-    /// each of them shows just what this session has seen, whatever others do meanwhile. Each is set to
-    /// read repeatably first. A worker at which that fails keeps the fault, and the answer is the fault of
-    /// the least number, with that number. The conditions are that this session hasn't failed and has no
-    /// rows pending, that the same holds of each worker and none has kept a fault, and that on an
-    /// honest link each is of this session's site. Takes no memory. (MySQL 8.0 Reference Manual, 15.3.7
-    /// "SET TRANSACTION Statement", 15.3.1 "START TRANSACTION, COMMIT, and ROLLBACK Statements".)
+    /// Opens the snapshots of workers, each in a thread of its own, while this session is lent:
+    /// after `Ok` each of them shows just what this session has seen, whatever others do meanwhile.
+    /// Each is set to read repeatably first. A worker at which that fails keeps the fault, and the
+    /// answer is the fault of the least number, with that number. The conditions are that this
+    /// session hasn't failed and has no rows pending, that the same holds of each worker and none
+    /// has kept a fault, and that on an honest link each is of this session's site. Takes no
+    /// memory. A willing server refuses none of this to a worker that holds no lock and, on a quiet
+    /// site, has seen what this session has: such a worker keeps a fault only where its link counts
+    /// one, or more than 2^62 - 16,777,224 bytes were heard on it before the statement that failed.
+    /// (MySQL 8.0 Reference Manual, 15.3.7 "SET TRANSACTION Statement", 15.3.1 "START TRANSACTION,
+    /// COMMIT, and ROLLBACK Statements".)
     pub fn snapshots<R: Threads + Sync>(
         &self,
         rt: &R,
