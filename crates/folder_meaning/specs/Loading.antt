@@ -10,8 +10,9 @@ use Rattle.honest_server.specs.Answer.{progress_schema}
 use Rattle.honest_server.specs.Insert.{Insertion, plain_cells}
 use Rattle.link_traits.specs.Contents.{File}
 use Rattle.object_forms.specs.declared.kind.Kind.{Kind}
-use Rattle.object_forms.specs.declared.kind.Kind.TheVariants.{Schema, Table}
+use Rattle.object_forms.specs.declared.kind.Kind.TheVariants.{Schema, Table, Trigger}
 use Rattle.server_data.specs.Agree.{Agree, object_eq}
+use Rattle.server_data.specs.Fold.{table_of_trigger}
 use Rattle.server_data.specs.declared.data.Change.{Change}
 use Rattle.server_data.specs.declared.data.Change.TheVariants.{Make, Put}
 use Rattle.server_data.specs.declared.data.Database.{Database}
@@ -171,10 +172,16 @@ NamesSchema plan schema = (schema ≡ progress_schema)
     ⊎ ((line : PlanLine) × Contains (all_plan_lines plan) line
     × (schema ≡ line.line.name.schema))
 
--- the plan doesn't name the schema of the progress, and the database has nothing in the schemas that it names, nor a progress
+-- where the object is a trigger, its table is in no schema that the plan names
+abbrev pub StandsApart : LoadPlan → Object → Type 0
+StandsApart plan object =
+    object.kind ≡ Trigger → ¬ NamesSchema plan (table_of_trigger object.needs).schema
+
+-- The plan doesn't name the schema of the progress; and the database has nothing in the schemas that it names, no trigger on a table there, and no progress.
 pub record IsFreshFor (plan : LoadPlan) (database : Database) : Type 0 where
   pub unreserved : All (λ line. line.line.name.schema ≢ progress_schema) (all_plan_lines plan)
   pub objects : All (λ object. ¬ NamesSchema plan object.schema) database.objects
+  pub triggers : All (StandsApart plan) database.objects
   pub rows : All (λ rows. ¬ NamesSchema plan rows.table.schema) database.rows
 
 -- The database is the one before the load, which had nothing of the plan, and what the load has made at this stage.
