@@ -1,15 +1,11 @@
 -- Pieces that are appended one after the other.
-use Rattle.std.proofs.Common.{◌≡◌, ℕ, ◌+◌, List, [], ◌∷◌, ◌++◌, length, take, map, codes, decimal, ◌≢◌, refl, sym, ◌∙◌, ap, subst, arith, append_assoc, append-nil, Some, None, Option, true, false, cond, ◌==◌}
+use Rattle.std.proofs.Common.{◌≡◌, ℕ, List, [], ◌∷◌, ◌++◌, map, codes, ◌≢◌, refl, sym, ◌∙◌, ap, append_assoc, append-nil, ◌==◌}
 use Rattle.std.specs.List.{flat_map}
-use Rattle.std.proofs.lemmas.List.{take_more}
 use Rattle.std.proofs.lemmas.Bool.{cond-true, cond-false, ne_eqb, eq-eqb}
-use Rattle.server_data.specs.declared.data.Position.{Position}
-use Rattle.folder_forms.specs.Metadata.{IsTimeText, IsTableList, HasMetadata, IsMetadata, IsMetadataText, TableNames, ended, file_line, position_lines, table_line, table_lines, lines_of}
+use Rattle.folder_forms.specs.Metadata.{HasMetadata, IsMetadataText, TableNames, ended, file_line, position_lines, table_line, table_lines, lines_of}
 use Rattle.folder_forms.specs.declared.metadata.FileLine.{FileLine}
 use Rattle.folder_forms.specs.declared.metadata.Metadata.{Metadata}
-use Rattle.metadata_ini.specs.Time.{AppendsTime}
-use Rattle.metadata_ini.specs.Tables.{plain_tables}
-use Rattle.metadata_ini.specs.Writing.{AppendsHead, AppendsMetadata, AppendsTables, AppendsEnd, head_lines}
+use Rattle.metadata_ini.specs.Writing.{AppendsHead, AppendsTables, AppendsEnd, head_lines}
 use Rattle.metadata_ini.proofs.TableLists.{has_tables}
 
 -- a piece more

@@ -1,21 +1,20 @@
 -- The lines of a `metadata` have no line feeds.
-use Rattle.std.proofs.Common.{◌≡◌, ◌≢◌, ℕ, zero, suc, ◌+◌, ◌-◌, ◌*◌, ◌/◌, ◌%◌, ◌<◌, ◌≤◌, ◌^◌, min, Bool, true, false, ◌==◌, ◌&&◌, cond, List, [], ◌∷◌, ◌++◌, length, map, replicate, Option, Some, None, refl, sym, ◌∙◌, ap, subst, arith, decimal, codes, nat_lt, IfSome, ◌⊎◌, inl, inr}
-use Rattle.std.specs.List.{All, AllByRecursion, flat_map, list_any, list_all, sum_by}
+use Rattle.std.proofs.Common.{◌≡◌, ◌≢◌, ℕ, ◌+◌, ◌-◌, ◌/◌, ◌%◌, ◌<◌, ◌^◌, min, Bool, true, false, ◌==◌, cond, List, [], ◌∷◌, ◌++◌, map, Option, Some, None, refl, sym, ◌∙◌, ap, subst, arith, decimal, codes, nat_lt, IfSome, ◌⊎◌, inl, inr}
+use Rattle.std.specs.List.{AllByRecursion, list_any, list_all, sum_by}
 use Rattle.std.specs.List.Sorted.{IsStrictlySortedBy}
 use Rattle.std.specs.Map.{keys_of}
 use Rattle.std.specs.Ordering.{is_eq}
 use Rattle.std.specs.BTreeMap.{is_at}
-use Rattle.std.proofs.lemmas.Bool.{or_from, or_parts, and_parts, ne_eqb, ltb-true, ltb-false}
-use Rattle.std.proofs.lemmas.Bool.Decides.{nat_tests}
+use Rattle.std.proofs.lemmas.Bool.{or_from, or_parts, and_parts, ne_eqb}
 use Rattle.std.proofs.lemmas.Map.Entries.{lookup_tail}
 use Rattle.std.proofs.lemmas.Map.Keys.{sorted_tail}
 use Rattle.std.proofs.lemmas.List.Elements.{recursion_from_All}
-use Rattle.hex.specs.Hex.{encode_lower, encode_with, lower_digits}
+use Rattle.hex.specs.Hex.{encode_lower}
 use Rattle.object_forms.specs.declared.kind.Kind.TheVariants.{Schema, Table, Procedure, Function, View, Trigger, Event}
 use Rattle.server_data.specs.Names.{escaped_name, file_name_byte, lower_digit, stands_as_it_is}
 use Rattle.server_data.specs.declared.data.Position.{Position}
 use Rattle.folder_forms.specs.FileName.{file_number, front_names, is_schema_file, ending}
-use Rattle.folder_forms.specs.Metadata.{HasFileLine, HasMetadata, HasPositionLines, IsMetadata, IsTableList, IsTimeText, TableNames, file_line, is_file_of, is_printable, kind_word, lines_of, named_text, position_lines, rows_of_table, table_line, table_lines, table_order, two_digits}
+use Rattle.folder_forms.specs.Metadata.{HasFileLine, HasPositionLines, IsMetadata, IsTableList, IsTimeText, TableNames, file_line, is_file_of, is_printable, kind_word, named_text, position_lines, rows_of_table, table_line, table_order, two_digits}
 use Rattle.folder_forms.specs.declared.file_kind.FileKind.{FileKind}
 use Rattle.folder_forms.specs.declared.file_kind.FileKind.TheVariants.{Object, Rows}
 use Rattle.folder_forms.specs.declared.metadata.FileLine.{FileLine}
@@ -39,7 +38,7 @@ clean_joined (c ∷ a) b h k =
 clean_byte : (b : ℕ) (text : List ℕ) → b ≢ 10 → Clean text → Clean (b ∷ text)
 clean_byte b text other rest = or_from (b == 10) (list_any (λ o. o == 10) text) (ne_eqb b 10 other) rest
 
-clean_by : (test : ℕ → Bool) → test 10 ≡ false → (text : List ℕ) → list_all test text ≡ true → Clean text
+pub clean_by : (test : ℕ → Bool) → test 10 ≡ false → (text : List ℕ) → list_all test text ≡ true → Clean text
 clean_by test fails [] all = refl
 clean_by test fails (b ∷ text) all =
     let parts = and_parts (test b) (list_all test text) all in
@@ -194,3 +193,7 @@ metadata_clean lines value is = subst (AllByRecursion Clean) (sym is.are) (
     ),
   ),
 )
+
+-- lines of tables have none either
+pub table_lines_clean : (files : List FileLine) (tables : List (TableNames × ℕ)) → IsTableList files tables → AllByRecursion Clean (map table_line tables)
+table_lines_clean files tables are = tables_clean tables (small_rows tables are.order (λ q. subst (λ o. IfSome o (λ n. n < 2 ^ 64)) (sym (are.rows q)) (rows_low files q)))

@@ -1,11 +1,10 @@
 -- Days of the years 1970 to 9998.
-use Rattle.std.proofs.Common.{◌≡◌, ◌≢◌, ℕ, ◌+◌, ◌-◌, ◌*◌, ◌/◌, ◌%◌, ◌<◌, ◌≤◌, refl, sym, ◌∙◌, ap, subst, arith, pos, ℤ, ◌+ℤ◌, ◌*ℤ◌, ◌≤ℤ◌, ◌<ℤ◌}
+use Rattle.std.proofs.Common.{◌≡◌, ℕ, ◌+◌, ◌*◌, ◌/◌, ◌%◌, ◌<◌, ◌≤◌, refl, sym, ◌∙◌, ap, arith, pos, ℤ, ◌+ℤ◌, ◌*ℤ◌, ◌≤ℤ◌, ◌<ℤ◌}
 use Rattle.jiff_core.proofs.CalendarLemmas.{day_count-epoch, days_from_civil-day_count, day_count-day_of_year, day_count-later_year, day_count-lt_year, day_count-next_year, day_count-end}
 use Rattle.std.proofs.lemmas.Int.{by_lt_z, ints}
-use Rattle.jiff_core.specs.Calendar.{IsCivilDate, IsYear, days_from_civil, day_count, days_in_year}
+use Rattle.jiff_core.specs.Calendar.{IsCivilDate, days_from_civil, day_count}
 use Rattle.folder_forms.specs.Metadata.{IsMoment, moment_seconds, year_9999}
 use Rattle.folder_forms.specs.declared.moment.Moment.{Moment}
-use Rattle.metadata_ini.specs.Time.{IsDay, IsNoDay, IsMomentAt}
 
 -- the first day of the year 9999
 day_9999 : day_count (pos 9999) 1 1 ≡ 7304485

@@ -1,25 +1,15 @@
 -- Where a text leaves `metadata`: the lines before that, and the line that doesn't go on.
-use Rattle.std.proofs.Common.{◌≡◌, ◌≢◌, ◌⊎◌, inl, inr, ℕ, zero, suc, ◌+◌, ◌<◌, ◌≤◌, ◌^◌, List, [], ◌∷◌, ◌++◌, length, get_or, drop, map, Option, Some, None, IfSome, refl, sym, ◌∙◌, ap, subst, arith, append_assoc, append-nil, decimal, codes, pos, length-append, ◌*ℤ◌, ◌+ℤ◌}
-use Rattle.std.specs.List.{All, AllByRecursion, AllPairs, flat_map}
+use Rattle.std.proofs.Common.{◌≡◌, ◌≢◌, ◌⊎◌, ℕ, ◌+◌, ◌<◌, List, [], ◌∷◌, ◌++◌, length, Option, IfSome, refl, sym, ◌∙◌, ap, subst, arith, append_assoc, append-nil, codes, pos}
+use Rattle.std.specs.List.{AllByRecursion, flat_map}
 use Rattle.std.proofs.lemmas.Int.{ints}
-use Rattle.jiff_core.specs.Calendar.{IsCivilDate, days_from_civil}
 use Rattle.jiff_core.proofs.CalendarLemmas.{day_count-epoch, days_from_civil-day_count}
 use Rattle.server_data.specs.declared.data.Position.{Position}
-use Rattle.folder_forms.specs.Metadata.{BeginsMetadata, HasMetadata, HasFileLine, HasPositionLines, IsBadLine, IsMetadata, IsMetadataText, IsMoment, IsTableList, IsTimeText, IsWrongVersion, MayPrecede, TableNames, ended, file_line, lines_of, moment_seconds, moment_text, position_lines, table_lines, year_9999}
-use Rattle.folder_forms.specs.declared.metadata.FileLine.{FileLine}
+use Rattle.folder_forms.specs.Metadata.{BeginsMetadata, HasMetadata, HasPositionLines, IsBadLine, IsMetadata, IsTimeText, ended, lines_of, year_9999}
 use Rattle.folder_forms.specs.declared.metadata.Metadata.{Metadata}
 use Rattle.folder_forms.specs.declared.moment.Moment.{Moment}
-use Rattle.metadata_ini.specs.Cut.{Lacks}
-use Rattle.metadata_ini.specs.Fault.{IsMetadataFault}
-use Rattle.metadata_ini.specs.declared.fault.MetadataFault.TheVariants.{BadLine, WrongVersion}
-use Rattle.metadata_ini.specs.declared.heads.Head.{Head}
-use Rattle.metadata_ini.specs.Reading.{HasNoTimeLine, HasNoValueLine, IsHead, IsTimeLine, IsValueLine, IsVersion}
-use Rattle.metadata_ini.specs.Writing.{head_lines}
-use Rattle.metadata_ini.proofs.Appended.{ended_line}
-use Rattle.metadata_ini.proofs.CleanLines.{Clean, clean_decimal, clean_time, metadata_clean}
-use Rattle.metadata_ini.proofs.CutTexts.{same_cut, lacks_all}
+use Rattle.metadata_ini.proofs.CleanLines.{Clean, metadata_clean}
+use Rattle.metadata_ini.proofs.CutTexts.{same_cut}
 use Rattle.metadata_ini.proofs.Days.{before_9999}
-use Rattle.metadata_ini.proofs.DecimalTexts.{same_decimals}
 use Rattle.metadata_ini.proofs.TableLists.{has_tables}
 
 -- lines that begin others

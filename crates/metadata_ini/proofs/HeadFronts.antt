@@ -1,15 +1,13 @@
 -- The lines up to the times: what they say, and where a text leaves them.
-use Rattle.std.proofs.Common.{◌≡◌, ◌≢◌, ◌⊎◌, inl, inr, ℕ, zero, suc, ◌+◌, ◌<◌, ◌≤◌, ◌^◌, List, [], ◌∷◌, ◌++◌, length, get_or, drop, map, Option, Some, None, IfSome, refl, sym, ◌∙◌, ap, subst, arith, append_assoc, append-nil, decimal, codes}
+use Rattle.std.proofs.Common.{◌≡◌, ◌≢◌, ◌⊎◌, inl, inr, ℕ, ◌<◌, ◌≤◌, ◌^◌, List, [], ◌∷◌, ◌++◌, length, get_or, drop, None, refl, sym, ◌∙◌, ap, subst, arith, append_assoc, append-nil, decimal, codes}
 use Rattle.std.specs.List.{flat_map}
-use Rattle.folder_forms.specs.Metadata.{BeginsMetadata, IsBadLine, IsMetadata, IsMetadataText, IsTimeText, IsWrongVersion, ended, lines_of}
-use Rattle.folder_forms.specs.declared.metadata.Metadata.{Metadata}
+use Rattle.folder_forms.specs.Metadata.{BeginsMetadata, IsTimeText, IsWrongVersion, ended}
 use Rattle.metadata_ini.specs.Cut.{Lacks}
 use Rattle.metadata_ini.specs.Fault.{IsMetadataFault}
 use Rattle.metadata_ini.specs.Time.{IsNoTime}
-use Rattle.metadata_ini.specs.declared.fault.MetadataFault.TheVariants.{BadLine, WrongVersion}
+use Rattle.metadata_ini.specs.declared.fault.MetadataFault.TheVariants.{BadLine}
 use Rattle.metadata_ini.specs.declared.heads.Head.{Head}
 use Rattle.metadata_ini.specs.Reading.{HasNoTimeLine, HasNoValueLine, IsHead, IsTimeLine, IsValueLine, IsVersion}
-use Rattle.metadata_ini.specs.Writing.{head_lines}
 use Rattle.metadata_ini.proofs.Appended.{ended_line}
 use Rattle.metadata_ini.proofs.CleanLines.{Clean, clean_decimal, clean_time}
 use Rattle.metadata_ini.proofs.CutTexts.{same_cut, lacks_all}

@@ -3,11 +3,15 @@ pub mod CleanLines
 pub mod CutTexts
 pub mod Days
 pub mod DecimalTexts
+pub mod EndFronts
+pub mod FileFronts
+pub mod FileOrders
 pub mod Fronts
 pub mod HeadFronts
 pub mod LineTexts
 pub mod NumberTexts
 pub mod Parts
+pub mod PositionFronts
 pub mod Spelled
 pub mod TableLists
 pub mod Texts

@@ -1,22 +1,21 @@
 -- Lines of files: their fields, and what is no such line.
-use Rattle.std.proofs.Common.{◌≡◌, ◌≢◌, ℕ, zero, suc, ◌+◌, ◌*◌, ◌/◌, ◌%◌, ◌<◌, ◌≤◌, ◌^◌, Bool, true, false, ◌==◌, cond, List, [], ◌∷◌, ◌++◌, length, get_or, take, drop, refl, sym, ◌∙◌, ap, subst, arith, append_assoc, slice_index, decimal, codes, Ok, Err, Result, MatchResult}
+use Rattle.std.proofs.Common.{◌≡◌, ◌≢◌, ℕ, zero, suc, ◌/◌, ◌%◌, ◌<◌, ◌^◌, false, ◌==◌, List, [], ◌∷◌, ◌++◌, length, refl, sym, ◌∙◌, ap, subst, arith, append_assoc, slice_index, decimal, codes, Ok, Err, Result, MatchResult}
 use Rattle.std.specs.List.{list_any}
 use Rattle.std.specs.Str.Parse.{AllDigits}
 use Rattle.std.specs.Char.{digit_value}
 use Rattle.std.proofs.lemmas.Bool.{or_from, or_parts, ne_eqb}
-use Rattle.std.proofs.lemmas.Bool.Decides.{nat_tests}
-use Rattle.hex.specs.Hex.{IsBytes, encode_lower, encode_with, lower_digits, decode_sized}
+use Rattle.hex.specs.Hex.{encode_lower, encode_with, lower_digits, decode_sized}
 use Rattle.hex.specs.declared.error.FromHexError.{FromHexError}
 use Rattle.hex.proofs.HexLemmas.{decode_of-encode_lower, decode_sized-twice, length-encode_with}
 use Rattle.object_forms.specs.declared.kind.Kind.TheVariants.{Schema, Table, Procedure, Function, View, Trigger, Event}
-use Rattle.folder_forms.specs.FileName.{NamedFile, IsFileName, IsNoFileName, HasFileName, file_text}
-use Rattle.folder_forms.specs.Metadata.{HasFileLine, IsFileDigest, file_line, kind_word, named_text}
+use Rattle.folder_forms.specs.FileName.{NamedFile, IsFileName, IsNoFileName}
+use Rattle.folder_forms.specs.Metadata.{kind_word, named_text}
 use Rattle.folder_forms.specs.declared.file_kind.FileKind.{FileKind}
 use Rattle.folder_forms.specs.declared.file_kind.FileKind.TheVariants.{Object, Rows}
 use Rattle.folder_forms.specs.declared.metadata.FileLine.{FileLine}
-use Rattle.metadata_ini.specs.Cut.{FieldTexts, HasFields, HasNoFields, IsCut, Lacks}
+use Rattle.metadata_ini.specs.Cut.{FieldTexts, HasFields, HasNoFields, Lacks}
 use Rattle.metadata_ini.specs.Line.{IsFileLine, IsNoFileLine, SpellsDigest, MayHaveRows}
-use Rattle.metadata_ini.proofs.CutTexts.{SameFields, same_fields}
+use Rattle.metadata_ini.proofs.CutTexts.{same_fields}
 use Rattle.metadata_ini.proofs.DecimalTexts.{decimal_digits, same_decimals}
 use Rattle.metadata_ini.proofs.Texts.{one_file}
 

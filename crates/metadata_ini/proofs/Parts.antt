@@ -1,5 +1,5 @@
 -- The parts of a file's name: each text has one division.
-use Rattle.std.proofs.Common.{◌≡◌, ◌≢◌, ℕ, ◌<◌, ◌≤◌, ◌^◌, Bool, true, false, cond, List, [], ◌∷◌, ◌++◌, length, get_or, take, drop, refl, sym, ◌∙◌, ap, subst, arith, append_assoc, append-nil, codes, zero, suc, ◌==◌, ◌-◌, length-append}
+use Rattle.std.proofs.Common.{◌≡◌, ◌≢◌, ℕ, ◌<◌, ◌^◌, Bool, true, false, cond, List, [], ◌∷◌, ◌++◌, length, get_or, take, drop, refl, sym, ◌∙◌, ap, subst, arith, append_assoc, append-nil, codes, zero, suc, ◌==◌, ◌-◌, length-append}
 use Rattle.std.proofs.lemmas.Bool.{and_parts}
 use Rattle.std.proofs.lemmas.List.{take-append-drop, append_cancel_right}
 use Rattle.std.specs.List.{list_all}
@@ -8,7 +8,7 @@ use Rattle.object_forms.specs.declared.kind.Kind.TheVariants.{Schema, Table, Pro
 use Rattle.folder_forms.specs.FileName.{file_number, is_schema_file, ending}
 use Rattle.folder_forms.specs.declared.file_kind.FileKind.{FileKind}
 use Rattle.folder_forms.specs.declared.file_kind.FileKind.TheVariants.{Object, Rows}
-use Rattle.metadata_ini.specs.Division.{is_spelling_byte, IsNameFront, HasNumber, Divides, IsUndivided, IsNameEnding, IsNoNameEnding, IsObjectEnding, IsNoObjectEnding, IsBetweenNone, NumbersNone, joined}
+use Rattle.metadata_ini.specs.Division.{is_spelling_byte, IsNameFront, HasNumber, Divides, IsUndivided, IsNameEnding, IsNoNameEnding, IsObjectEnding, IsNoObjectEnding, IsBetweenNone, NumbersNone}
 use Rattle.metadata_ini.proofs.NumberTexts.{same_numbers}
 
 -- fronts

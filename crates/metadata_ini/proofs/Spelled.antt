@@ -1,15 +1,14 @@
 -- Names as they are spelled in names of files: each spelling is of one name.
-use Rattle.std.proofs.Common.{◌≡◌, ◌≢◌, ℕ, ◌+◌, ◌*◌, ◌/◌, ◌%◌, ◌<◌, ◌≤◌, Bool, true, false, cond, List, [], ◌∷◌, ◌++◌, length, get_or, drop, refl, sym, ◌∙◌, ap, subst, arith, append_assoc, append-nil, nat_lt, inl, inr}
+use Rattle.std.proofs.Common.{◌≡◌, ℕ, ◌+◌, ◌/◌, ◌%◌, ◌<◌, Bool, true, false, cond, List, [], ◌∷◌, ◌++◌, length, get_or, drop, refl, sym, ◌∙◌, ap, subst, arith, append_assoc, append-nil, nat_lt, inl, inr}
 use Rattle.std.proofs.lemmas.Bool.{and_parts, ltb-true, ltb-false}
 use lib.Dec.{ltb}
 use Rattle.std.specs.Prelude.{IsUtf8}
-use Rattle.std.specs.Str.{encode_utf8_all}
 use lib.Utf8.{encode, encodes, scalar, scalars, scalar_cases}
 use Rattle.server_data.specs.Names.{escaped_name, file_name_byte, lower_digit, stands_as_it_is}
 use Rattle.metadata_ini.specs.Fault.{IsNoName}
 use Rattle.metadata_ini.specs.declared.fault.NameFault.{NameFault}
 use Rattle.metadata_ini.specs.declared.fault.NameFault.TheVariants.{NotAName, OutOfMemory}
-use Rattle.metadata_ini.specs.Spelling.{AreBytes, IsNoFront, SpellsNone, IsSpelt, SpellsNoName}
+use Rattle.metadata_ini.specs.Spelling.{AreBytes, IsNoFront, SpellsNone, SpellsNoName}
 
 -- digits
 

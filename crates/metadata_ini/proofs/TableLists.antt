@@ -1,10 +1,10 @@
 -- Tables of files: each list of files has one list of tables.
-use Rattle.std.proofs.Common.{◌≡◌, ◌≢◌, ℕ, zero, suc, ◌+◌, ◌-◌, ◌*◌, ◌<◌, ◌≤◌, ◌^◌, min, Bool, true, false, ◌||◌, ◌&&◌, cond, List, [], ◌∷◌, ◌++◌, length, map, Option, Some, None, refl, sym, ◌∙◌, ap, subst, arith, append_assoc, append-nil}
+use Rattle.std.proofs.Common.{◌≡◌, ℕ, ◌+◌, ◌-◌, ◌^◌, min, Bool, true, false, ◌||◌, ◌&&◌, cond, List, [], ◌∷◌, ◌++◌, Option, Some, None, refl, sym, ◌∙◌, ap, subst, arith, append_assoc, append-nil}
 use Rattle.std.specs.Borrow.{Bor}
 use Rattle.std.specs.Cmp.{IsTotalOrder}
 use Rattle.std.specs.Cmp.Lexicographic.{slice_cmp, nat_list_cmp_total}
 use Rattle.std.specs.Map.{lookup, keys_of}
-use Rattle.std.specs.BTreeMap.{insert_entry, is_at, BTreeMap}
+use Rattle.std.specs.BTreeMap.{insert_entry, is_at}
 use Rattle.std.specs.List.{AllByRecursion, list_any, sum_by}
 use Rattle.std.specs.List.Sorted.{IsStrictlySortedBy}
 use Rattle.std.specs.Option.{unwrap_or}
@@ -16,7 +16,7 @@ use Rattle.std.proofs.lemmas.List.Folds.{list_any-append}
 use Rattle.std.proofs.lemmas.List.Sums.{sum_by_push, sum_by-cons}
 use Rattle.std.proofs.lemmas.Map.{lookup-none}
 use Rattle.std.proofs.lemmas.Map.Entries.{lookup_head, lookup_tail, none_past_head, none_below_head}
-use Rattle.std.proofs.lemmas.Map.Keys.{sorted_head, sorted_tail, IsDistinct-from_sorted}
+use Rattle.std.proofs.lemmas.Map.Keys.{sorted_tail, IsDistinct-from_sorted}
 use Rattle.std.proofs.lemmas.Map.Lookups.{exact_pairs, exact_bytes}
 use Rattle.folder_forms.specs.Metadata.{IsTableList, TableNames, table_order, rows_of_table, is_file_of, names_table}
 use Rattle.folder_forms.specs.declared.metadata.FileLine.{FileLine}
@@ -253,7 +253,7 @@ pub counted : (files : List FileLine) (file : FileLine) (es fs : List ((Bor (Lis
     → IsTableList files (plain_tables es) → names_table file.name.kind ≡ true → k.0.now ≡ file.name.schema → k.1.now ≡ file.name.name
     → o ≡ lookup (is_at (lent_order k)) es → v ≡ min (unwrap_or o 0 + file.rows) (2 ^ 64 - 1) → fs ≡ insert_entry lent_order es k v → IsTableList (files ++ file ∷ []) (plain_tables fs)
 counted files file es fs k v o list some schema name found value put =
-    let names : (k.0.now, k.1.now) ≡ (file.name.schema, file.name.name) = (λ i. (schema i, name i)) in
+    let names : ◌≡◌ {A = TableNames} (k.0.now, k.1.now) (file.name.schema, file.name.name) = (λ i. (schema i, name i)) in
     let there : o ≡ entry_of (file.name.schema, file.name.name) (plain_tables es) = found ∙ plain_found es k ∙ ap (λ t. entry_of t (plain_tables es)) names in
     let sum : v ≡ min (2 ^ 64 - 1) (unwrap_or (entry_of (file.name.schema, file.name.name) (plain_tables es)) 0 + file.rows) = omega (arith, value, ap (λ x. unwrap_or x 0) there) in
     subst (IsTableList (files ++ file ∷ [])) (sym (ap plain_tables put ∙ plain_put es k v ∙ ap (λ t. insert_entry table_order (plain_tables es) t v) names)) (added files file (plain_tables es) v list some sum)

@@ -1,6 +1,6 @@
 -- What files are called, as texts.
 use Rattle.std.proofs.Common.{◌≡◌, ℕ, ◌<◌, ◌/◌, ◌%◌, Bool, true, false, cond, List, [], ◌∷◌, ◌++◌, refl, sym, ◌∙◌, ap, subst, arith, codes, nat_lt, inl, inr, ◌⊎◌, ◌+◌, ◌^◌, zero, suc, length, get_or}
-use Rattle.std.proofs.lemmas.Bool.{ltb-true, ltb-false, leb-true, leb-false, eqb-true, and_parts}
+use Rattle.std.proofs.lemmas.Bool.{ltb-true, leb-true, eqb-true, and_parts}
 use Rattle.std.specs.Prelude.{IsUtf8, IsAscii, ◌&&◌, ◌||◌, ◌==◌, nat_le}
 use Rattle.std.specs.List.{list_all}
 use Rattle.std.proofs.lemmas.Str.{IsUtf8-from_ascii, IsAscii-append}
@@ -10,7 +10,7 @@ use Rattle.object_forms.specs.declared.kind.Kind.TheVariants.{Schema, Table, Pro
 use Rattle.folder_forms.specs.FileName.{file_number, NamedFile, HasFileName, IsFileName, IsNoFileName, file_text, front_names, ending, is_schema_file, file_of}
 use Rattle.folder_forms.specs.declared.file_kind.FileKind.{FileKind}
 use Rattle.folder_forms.specs.declared.file_kind.FileKind.TheVariants.{Object, Rows}
-use Rattle.metadata_ini.specs.Division.{is_spelling_byte, HasNumber, Divides, IsUndivided, joined}
+use Rattle.metadata_ini.specs.Division.{is_spelling_byte, Divides, IsUndivided, joined}
 use Rattle.metadata_ini.specs.Fault.{IsNoName}
 use Rattle.metadata_ini.specs.declared.fault.NameFault.{NameFault}
 use Rattle.metadata_ini.specs.declared.fault.NameFault.TheVariants.{NotAName, OutOfMemory}

@@ -1,10 +1,10 @@
 -- Times: a text is the text of one moment, and which moments are real.
-use Rattle.std.proofs.Common.{◌≡◌, ◌≢◌, ℕ, ◌+◌, ◌-◌, ◌*◌, ◌/◌, ◌%◌, ◌<◌, ◌≤◌, List, [], ◌∷◌, ◌++◌, length, get_or, refl, sym, ◌∙◌, ap, subst, arith, pos, ℤ, ◌+ℤ◌, ◌*ℤ◌, slice_index}
+use Rattle.std.proofs.Common.{◌≡◌, ◌≢◌, ℕ, ◌+◌, ◌*◌, ◌/◌, ◌%◌, ◌<◌, ◌≤◌, List, length, get_or, sym, ◌∙◌, ap, subst, arith, pos, ℤ, slice_index}
 use Rattle.std.proofs.lemmas.Bool.Decides.{nat_tests}
-use Rattle.jiff_core.specs.Calendar.{IsCivilDate, days_from_civil, days_in_month}
-use Rattle.folder_forms.specs.Metadata.{IsMoment, IsTimeText, moment_seconds, moment_text, two_digits, year_9999}
+use Rattle.jiff_core.specs.Calendar.{days_in_month}
+use Rattle.folder_forms.specs.Metadata.{IsMoment, IsTimeText, moment_text}
 use Rattle.folder_forms.specs.declared.moment.Moment.{Moment}
-use Rattle.metadata_ini.specs.Time.{digit_value, pair_value, moment_in, IsDay, IsNoDay, IsMomentAt, IsNoTime}
+use Rattle.metadata_ini.specs.Time.{digit_value, pair_value, moment_in, IsMomentAt, IsNoTime}
 
 digit_read : (d : ℕ) → d ≤ 9 → digit_value (d + 48) ≡ d
 digit_read d low = grind (arith, nat_tests)

@@ -1,6 +1,7 @@
 -- Texts that are cut at a byte.
-use Rattle.std.specs.Prelude.{◌≡◌, ◌≢◌, ◌==◌, false, ℕ, List, ◌∷◌, ◌++◌}
+use Rattle.std.specs.Prelude.{◌≡◌, ◌==◌, false, ℕ, List, ◌∷◌, ◌++◌}
 use Rattle.std.specs.List.{list_any}
+use Rattle.metadata_ini.specs.declared.cuts.Fields.{Fields}
 
 -- the byte isn't in the text
 abbrev pub Lacks : ℕ → List ℕ → Type 0
@@ -18,6 +19,16 @@ pub record FieldTexts : Type 0 where
   pub bytes : List ℕ
   pub digest : List ℕ
   pub name : List ℕ
+
+-- fields that are lent, as lists of bytes
+abbrev pub texts_of : Fields → FieldTexts
+texts_of fields = record {
+  kind = fields.kind.now;
+  rows = fields.rows.now;
+  bytes = fields.bytes.now;
+  digest = fields.digest.now;
+  name = fields.name.now;
+}
 
 -- the text is these fields with a space between each two
 pub record HasFields (text : List ℕ) (fields : FieldTexts) : Type 0 where

@@ -2,6 +2,7 @@ pub mod Cut
 pub mod Division
 pub mod Fault
 pub mod Line
+pub mod Order
 pub mod Reading
 pub mod Spelling
 pub mod Tables

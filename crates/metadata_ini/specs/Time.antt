@@ -10,7 +10,8 @@ digit_value byte = if nat_le 48 byte && nat_le byte 57 then byte - 48 else 10
 
 -- the value of the two digits that stand there
 abbrev pub pair_value : List ℕ → ℕ → ℕ
-pair_value text at = digit_value (slice_index text at) * 10 + digit_value (slice_index text (at + 1))
+pair_value text at =
+    digit_value (slice_index text at) * 10 + digit_value (slice_index text (at + 1))
 
 -- the moment whose text this is, if it is the text of one
 abbrev pub moment_in : List ℕ → Moment

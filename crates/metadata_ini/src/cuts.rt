@@ -1,6 +1,6 @@
 //! Texts that are cut at a byte.
 ghost use Rattle.std.specs.Prelude.{◌≡◌, ◌≢◌, ◌∷◌, ◌++◌, MatchOption};
-ghost use Rattle.metadata_ini.specs.Cut.{HasFields, HasNoFields, IsCut, Lacks};
+ghost use Rattle.metadata_ini.specs.Cut.{HasFields, HasNoFields, IsCut, Lacks, texts_of};
 
 use memchr::memchr;
 
@@ -32,13 +32,7 @@ pub(crate) struct Fields<'a> {
 /// The fields of a line of a file.
 pub(crate) fn fields_of(text: &[u8]) -> Option<Fields<'_>>
     ensures { MatchOption result (HasNoFields text.now)
-        (λ f. HasFields text.now (record {
-          kind = f.kind.now;
-          rows = f.rows.now;
-          bytes = f.bytes.now;
-          digest = f.digest.now;
-          name = f.name.now;
-        })) }
+        (λ fields. HasFields text.now (texts_of fields)) }
 {
     let Some((kind, after)) = cut(b' ', text) else {
         return None;

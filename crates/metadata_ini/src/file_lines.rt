@@ -2,7 +2,7 @@
 ghost use Rattle.std.specs.Prelude.{◌≡◌, ◌≢◌, ◌<◌, ◌++◌, true, false, List, ℕ, length, IfOk, OnOk, MatchOption};
 ghost use Rattle.hex.specs.Hex.{IsBytes, encode_lower};
 ghost use Rattle.folder_forms.specs.Metadata.{ended, file_line, kind_word};
-ghost use Rattle.metadata_ini.specs.Line.{IsFileLine, IsNoFileLine, SpellsDigest, MayHaveRows};
+ghost use Rattle.metadata_ini.specs.Line.{IsFileOf, SpellsDigest, SpellsNoDigest, MayHaveRows};
 
 use crate::cuts::fields_of;
 use crate::decimals::{append_decimal, read_decimal};
@@ -79,7 +79,7 @@ fn decode(text: &[u8], digest: &mut [u8]) -> bool
 
 // The digest that is spelled so, in lower case.
 fn read_digest(text: &[u8]) -> Option<[u8; 20]>
-    ensures { MatchOption result ((d : List ℕ) → ¬ SpellsDigest text.now d) (SpellsDigest text.now) }
+    ensures { MatchOption result (SpellsNoDigest text.now) (SpellsDigest text.now) }
 {
     let mut digest = [0u8; 20];
     if !decode(text, &mut digest) {
@@ -107,7 +107,7 @@ fn may_have_rows(kind: FileKind, rows: u64) -> bool
 
 /// The file whose line this is, if it is one's.
 pub(crate) fn read_file_line(alloc: Global, text: &[u8]) -> Result<Option<FileLine>, OutOfMemory>
-    ensures { IfOk result (λ found. MatchOption found (IsNoFileLine text.now) (IsFileLine text.now)) }
+    ensures { IfOk result (IsFileOf text.now) }
 {
     let Some(fields) = fields_of(text) else {
         return Ok(None);

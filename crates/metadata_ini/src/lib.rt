@@ -15,6 +15,9 @@ mod file_lines;
 mod file_name;
 mod heads;
 mod numbers;
+mod orders;
+mod positions;
+mod reading;
 mod spelling;
 mod tables;
 mod times;
@@ -22,4 +25,5 @@ mod writing;
 
 pub use fault::{MetadataFault, NameFault};
 pub use file_name::{FileNameText, one_file};
+pub use reading::read;
 pub use writing::write_into;

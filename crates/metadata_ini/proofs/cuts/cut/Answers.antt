@@ -1,4 +1,4 @@
-use Rattle.std.proofs.Common.{◌≡◌, ◌<◌, ◌≤◌, ap, drop, ◌∙◌, arith, slice_index, zero-le}
+use Rattle.std.proofs.Common.{ap, drop, ◌∙◌, arith}
 use Rattle.std.proofs.lemmas.Bool.{eqb-true}
 use Rattle.metadata_ini.proofs.CutTexts.{cut_at, lacks_whole}
 use Rattle.metadata_ini.proofs.cuts.cut.Goals as goal

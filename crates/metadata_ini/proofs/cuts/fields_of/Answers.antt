@@ -1,4 +1,4 @@
-use Rattle.metadata_ini.proofs.CutTexts.{no_first, no_second, no_third, no_fourth}
+use Rattle.metadata_ini.proofs.CutTexts.{no_second, no_third, no_fourth}
 use Rattle.metadata_ini.proofs.cuts.fields_of.Goals as goal
 
 pub returns-in_default-cut : goal.returns-in_default-cut

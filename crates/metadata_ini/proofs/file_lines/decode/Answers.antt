@@ -1,4 +1,4 @@
-use Rattle.std.proofs.Common.{◌≡◌, ap, sym, ◌∙◌, is_ok, true, false}
+use Rattle.std.proofs.Common.{ap, sym, ◌∙◌, is_ok}
 use Rattle.std.proofs.lemmas.Bool.{false≢true}
 use Rattle.metadata_ini.proofs.LineTexts.{decoded_out}
 use Rattle.metadata_ini.proofs.file_lines.decode.Goals as goal

@@ -1,4 +1,4 @@
-use Rattle.std.proofs.Common.{◌≡◌, sym, ◌∙◌, ap, subst, arith}
+use Rattle.std.proofs.Common.{sym, ◌∙◌, ap, subst, arith}
 use Rattle.folder_forms.specs.Metadata.{kind_word}
 use Rattle.metadata_ini.specs.Line.{MayHaveRows}
 use Rattle.metadata_ini.proofs.LineTexts.{no_fields_line, no_rows_line, no_bytes_line, no_digest_line, no_name_line, other_word_line, other_rows_line}

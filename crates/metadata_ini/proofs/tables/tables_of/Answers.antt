@@ -1,5 +1,4 @@
-use Rattle.std.proofs.Common.{◌≡◌, ℕ, ◌+◌, ◌∷◌, ◌++◌, [], take, sym, ap, subst, ◌∙◌, refl, arith, min}
-use Rattle.std.specs.Option.{unwrap_or}
+use Rattle.std.proofs.Common.{◌≡◌, ◌+◌, ◌∷◌, ◌++◌, [], take, sym, ap, subst, ◌∙◌, arith, min}
 use Rattle.std.proofs.lemmas.List.{take_more}
 use Rattle.folder_forms.specs.Metadata.{IsTableList, names_table}
 use Rattle.metadata_ini.specs.Tables.{plain_tables}

@@ -1,9 +1,8 @@
-use Rattle.std.proofs.Common.{rules, arith, ◌≡◌, ◌≤◌, pos, sym, subst, ap, ◌∙◌, ℤ, ◌≤ℤ◌, ◌<ℤ◌, FitsSigned, w32, to_z, of_z}
+use Rattle.std.proofs.Common.{arith, ◌≡◌, pos, subst, ◌∙◌, ◌≤ℤ◌, FitsSigned, w32}
 use Rattle.std.proofs.lemmas.Int.{ints, to_z-of_z}
 use Rattle.jiff_core.proofs.DateLemmas.{civil}
 use Rattle.jiff_core.specs.Calendar.{IsCivilDate, days_from_civil}
 use Rattle.std.specs.Prelude.{unsigned_abs}
-use Rattle.metadata_ini.specs.Time.{IsDay}
 use Rattle.metadata_ini.proofs.Days.{epoch_from}
 use Rattle.metadata_ini.proofs.times.day_number.Goals as goal
 

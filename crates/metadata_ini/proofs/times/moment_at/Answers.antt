@@ -1,4 +1,4 @@
-use Rattle.std.proofs.Common.{rules, arith, ◌≡◌, ◌≤◌, ◌/◌, pos, sym, subst, ap, ◌∙◌, ℤ, ◌≤ℤ◌, ◌<ℤ◌, FitsSigned, to_z, of_z}
+use Rattle.std.proofs.Common.{arith, ◌≡◌, ◌/◌, pos, sym, subst, ap, ◌∙◌, ◌≤ℤ◌, ◌<ℤ◌, FitsSigned}
 use Rattle.std.proofs.lemmas.Int.{ints, to_z-of_z}
 use mir.Syntax.{w16}
 use Rattle.std.specs.Prelude.{unsigned_abs}

@@ -1,4 +1,4 @@
-use Rattle.std.proofs.Common.{◌≡◌, ap, sym, ◌∙◌, ◌++◌, append-nil, decimal}
+use Rattle.std.proofs.Common.{ap, ◌∙◌, ◌++◌, decimal}
 use Rattle.metadata_ini.proofs.Appended.{piece, head_pieces}
 use Rattle.metadata_ini.proofs.writing.append_head.Goals as goal
 

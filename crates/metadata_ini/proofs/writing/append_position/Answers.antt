@@ -1,4 +1,4 @@
-use Rattle.std.proofs.Common.{◌≡◌, ap, sym, ◌∙◌, ◌++◌, append-nil, decimal}
+use Rattle.std.proofs.Common.{ap, sym, ◌∙◌, ◌++◌, decimal}
 use Rattle.std.specs.List.{flat_map}
 use Rattle.folder_forms.specs.Metadata.{ended, position_lines}
 use Rattle.metadata_ini.proofs.Appended.{piece, position_pieces}

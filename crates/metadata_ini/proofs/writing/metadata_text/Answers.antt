@@ -1,4 +1,4 @@
-use Rattle.std.proofs.Common.{◌≡◌, ap, sym, subst, ◌∙◌, ◌++◌, map}
+use Rattle.std.proofs.Common.{ap, subst, ◌∙◌, ◌++◌, map}
 use Rattle.std.specs.List.{flat_map}
 use Rattle.folder_forms.specs.Metadata.{ended, file_line}
 use Rattle.metadata_ini.specs.Writing.{AppendsHead, AppendsEnd}
