@@ -49,7 +49,7 @@ one_line line f g p q =
     let digests : f.digest ≡ g.digest = ap bytes_or_none (sym (decode_of-encode_lower f.digest p.may_be.digest.bytes) ∙ ap decode_of s.digest ∙ decode_of-encode_lower g.digest q.may_be.digest.bytes) in
     λ i. record { name = names i; rows = rows i; bytes = bytes i; digest = digests i }
 
-abbrev tables_word : List ℕ
+abbrev pub tables_word : List ℕ
 tables_word = codes "[tables]"
 
 word_first : (kind : FileKind) → get_or (kind_word kind) 0 0 ≡ 91 → ⊥
@@ -79,15 +79,15 @@ no_tables_line file e =
 -- lines of files in front of others
 
 -- the files go on, and then the end comes
-record GoesOn (fs gs : List FileLine) (x t : List (List ℕ)) : Type 0 where
-  more : List FileLine
-  files : gs ≡ fs ++ more
-  is : x ≡ map file_line more ++ t
+pub record GoesOn (fs gs : List FileLine) (x t : List (List ℕ)) : Type 0 where
+  pub more : List FileLine
+  pub files : gs ≡ fs ++ more
+  pub is : x ≡ map file_line more ++ t
 
 abbrev head_of : List (List ℕ) → List ℕ
 head_of lines = get_or lines 0 []
 
-goes_on : (fs gs : List FileLine) (x t : List (List ℕ)) → AllByRecursion HasFileLine fs → AllByRecursion HasFileLine gs → ((line : List ℕ) (more : List (List ℕ)) → t ≡ line ∷ more → line ≡ tables_word)
+pub goes_on : (fs gs : List FileLine) (x t : List (List ℕ)) → AllByRecursion HasFileLine fs → AllByRecursion HasFileLine gs → ((line : List ℕ) (more : List (List ℕ)) → t ≡ line ∷ more → line ≡ tables_word)
     → map file_line fs ++ x ≡ map file_line gs ++ t → GoesOn fs gs x t
 goes_on [] gs x t h k end e = record { more = gs; files = refl; is = e }
 goes_on (f ∷ fs) [] x t h k end e = absurd (no_tables_line f (end (file_line f) (map file_line fs ++ x) (sym e)))
@@ -96,7 +96,7 @@ goes_on (f ∷ fs) (g ∷ gs) x t h k end e =
     let rest = goes_on fs gs x t h.1 k.1 end (ap (drop 1) e) in
     record { more = rest.more; files = (λ i. sym same i ∷ rest.files i); is = rest.is }
 
-end_first : (version : ℕ) (tables : List (TableNames × ℕ)) (line : List ℕ) (more : List (List ℕ)) → table_lines version tables ≡ line ∷ more → (version ≡ 2) × (line ≡ tables_word)
+pub end_first : (version : ℕ) (tables : List (TableNames × ℕ)) (line : List ℕ) (more : List (List ℕ)) → table_lines version tables ≡ line ∷ more → (version ≡ 2) × (line ≡ tables_word)
 end_first version tables line more e = by (version == 2) refl e where
   by : (b : Bool) → (version == 2) ≡ b → cond b (tables_word ∷ map table_line tables) [] ≡ line ∷ more → (version ≡ 2) × (line ≡ tables_word)
   by true is e = (eqb-true version 2 is, sym (ap head_of e))
@@ -109,7 +109,7 @@ after_position None (Some p) x y e = absurd (omega (arith, ap (λ l. get_or (hea
 after_position (Some o) None x y e = absurd (omega (arith, ap (λ l. get_or (head_of l) 1 0) e))
 after_position (Some o) (Some p) x y e = ap (drop 5) e
 
-small : (n : ℕ) → (n ≡ 1) ⊎ (n ≡ 2) → n < 2 ^ 64
+pub small : (n : ℕ) → (n ≡ 1) ⊎ (n ≡ 2) → n < 2 ^ 64
 small n (inl e) = omega (arith, e)
 small n (inr e) = omega (arith, e)
 

@@ -36,7 +36,7 @@ following (l ∷ lines) (b ∷ before) rest h k e =
     let tail = following lines before rest h.1 k.1 cut.1 in
     record { more = tail.more; is = (λ i. cut.0 i ∷ tail.is i); text = tail.text }
 
-front_clean : (before more : List (List ℕ)) → AllByRecursion Clean (before ++ more) → AllByRecursion Clean before
+pub front_clean : (before more : List (List ℕ)) → AllByRecursion Clean (before ++ more) → AllByRecursion Clean before
 front_clean [] more all = tt
 front_clean (b ∷ before) more all = (all.0, front_clean before more all.1)
 

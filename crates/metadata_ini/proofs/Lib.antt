@@ -10,6 +10,8 @@ pub mod Fronts
 pub mod HeadFronts
 pub mod LineTexts
 pub mod NumberTexts
+pub mod OneBadLine
+pub mod OneMetadata
 pub mod Parts
 pub mod PositionFronts
 pub mod Spelled

@@ -19,7 +19,7 @@ short_month : (y : ℤ) (m : ℕ) → days_in_month y m ≤ 31
 short_month y m = grind (arith, nat_tests)
 
 -- The moment in a text of a moment is that moment.
-moment_read : (text : List ℕ) (m : Moment) → IsMoment m → text ≡ moment_text m → moment_in text ≡ m
+pub moment_read : (text : List ℕ) (m : Moment) → IsMoment m → text ≡ moment_text m → moment_in text ≡ m
 moment_read text m real is =
     let day : m.day < 100 = omega (arith, short_month (pos m.year) m.month, real.date) in
     let month : m.month < 100 = omega (arith, real.date) in

@@ -1,0 +1,5 @@
+use Rattle.metadata_ini.proofs.OneBadLine.{one_bad_line}
+use Rattle.metadata_ini.proofs.laws.one_bad_line.Goals as goal
+
+pub returns : goal.returns
+returns c = one_bad_line
