@@ -1,12 +1,10 @@
 -- What isn't the name of a file.
-use Rattle.std.proofs.Common.{◌≡◌, ◌≢◌, ℕ, ◌+◌, ◌/◌, ◌%◌, ◌<◌, Bool, true, false, cond, List, [], ◌∷◌, ◌++◌, get_or, refl, sym, ◌∙◌, ap, arith, codes, nat_lt}
+use Rattle.std.proofs.Common.{◌≡◌, ℕ, ◌+◌, ◌/◌, ◌%◌, ◌<◌, Bool, true, false, cond, List, [], ◌∷◌, ◌++◌, get_or, refl, sym, ◌∙◌, ap, arith, codes, nat_lt}
 use Rattle.std.proofs.lemmas.Bool.{ltb-true, ltb-false}
 use Rattle.server_data.specs.Names.{lower_digit, stands_as_it_is}
 use Rattle.object_forms.specs.declared.kind.Kind.TheVariants.{Table}
-use Rattle.folder_forms.specs.FileName.{IsNoFileName}
 use Rattle.folder_forms.specs.declared.file_kind.FileKind.TheVariants.{Object}
-use Rattle.metadata_ini.specs.Division.{Divides}
-use Rattle.metadata_ini.specs.Spelling.{IsNoFront, SpellsNoName}
+use Rattle.metadata_ini.specs.Spelling.{IsNoFront}
 use Rattle.metadata_ini.proofs.Spelled.{spelled_none, no_bytes, none_spelt}
 use Rattle.metadata_ini.proofs.Texts.{no_schema_name, no_object_name}
 use Rattle.folder_examples.specs.Names.{OtherNames}

@@ -2,6 +2,7 @@
 //! runs: the contracts are the examples.
 #![tactic(auto)]
 
+ghost use Rattle.folder_examples.specs.Lines.{MetadataLines, RowsOfTables};
 ghost use Rattle.folder_examples.specs.Names.{FileNames, OtherNames};
 
 /// What files are called, by examples of each kind.
@@ -12,4 +13,14 @@ pub fn file_names()
 /// What isn't the name of a file, by examples.
 pub fn other_names()
     ensures { OtherNames }
+{}
+
+/// How lines of `metadata` read, by examples.
+pub fn metadata_lines()
+    ensures { MetadataLines }
+{}
+
+/// How many rows a table has in `metadata`, by examples.
+pub fn rows_of_tables()
+    ensures { RowsOfTables }
 {}
