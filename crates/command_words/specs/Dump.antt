@@ -64,5 +64,5 @@ unfoldable pub dump_command : App
 dump_command = program_command (codes "mydumper") dump_options
 
 -- what a command line of `mydumper` asks for, or why it isn't read
-abbrev pub dump_of_words : List (List ℕ) → Result DumpWords WordsFault
+unfoldable pub dump_of_words : List (List ℕ) → Result DumpWords WordsFault
 dump_of_words words = and_then (matched dump_command words) dump_of_rows

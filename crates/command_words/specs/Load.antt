@@ -47,5 +47,5 @@ unfoldable pub load_command : App
 load_command = program_command (codes "myloader") load_options
 
 -- what a command line of `myloader` asks for, or why it isn't read
-abbrev pub load_of_words : List (List ℕ) → Result LoadWords WordsFault
+unfoldable pub load_of_words : List (List ℕ) → Result LoadWords WordsFault
 load_of_words words = and_then (matched load_command words) load_of_rows

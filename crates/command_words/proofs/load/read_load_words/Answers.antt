@@ -3,7 +3,7 @@ use Rattle.std.specs.Prelude.{Result}
 use Rattle.std.specs.Borrow.{Bor}
 use Rattle.clap.specs.Words.{Row}
 use Rattle.command_words.specs.Meant.{FailsAsMeant}
-use Rattle.command_words.specs.Load.{load_command, load_of_rows}
+use Rattle.command_words.specs.Load.{load_command, load_of_rows, load_of_words}
 use Rattle.command_words.specs.Matches.{matched}
 use Rattle.command_words.specs.declared.fault.WordsFault.{WordsFault}
 use Rattle.command_words.proofs.Commands.{load_command_made}
@@ -14,12 +14,14 @@ abbrev texts_of : List (Bor (List ℕ)) → List (List ℕ)
 texts_of = map (λ (word : Bor (List ℕ)). word.now)
 
 pub returns-in_err-found-clause-meaning : goal.returns-in_err-found-clause-meaning
+unfolding load_of_words
 returns-in_err-found-clause-meaning c =
     let same = ap₂ matched (load_command_made c.as_slice.result.now c.load_options-options.result c.as_slice.ensures c.load_options-options.ensures) (ap texts_of c.as_slice-2.ensures.value ∙ c.in_ok-texts.ensures) in
     handed_on _ _ _ c.from_residual-in_err-found.ensures.1
     (first_fails (matched load_command c.args.words.now) load_of_rows _ (subst (λ (r : Result (List Row) WordsFault). FailsAsMeant r c.in_err-found.field-0.0) same c.in_err-found.ensures))
 
 pub returns-clause-meaning : goal.returns-clause-meaning
+unfolding load_of_words
 returns-clause-meaning c =
     let same = ap₂ matched (load_command_made c.as_slice.result.now c.load_options-options.result c.as_slice.ensures c.load_options-options.ensures) (ap texts_of c.as_slice-2.ensures.value ∙ c.in_ok-texts.ensures) in
     second_answers (matched load_command c.args.words.now) load_of_rows _ c.load_words.result (sym same ∙ c.in_ok-found.ensures) c.load_words.ensures.meaning
