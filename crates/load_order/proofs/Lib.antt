@@ -1,0 +1,3 @@
+mod ArrangeLemmas
+mod OrderLemmas
+mod ReadyLemmas
