@@ -1,3 +1,4 @@
 mod ArrangeLemmas
 mod OrderLemmas
+mod PartLemmas
 mod ReadyLemmas

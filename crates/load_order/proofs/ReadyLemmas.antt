@@ -14,7 +14,7 @@ use Rattle.std.proofs.lemmas.List.{get_or_default, length-take-le, take_all, tak
 use Rattle.std.proofs.lemmas.List.Edits.{get_or-remove_above, get_or-remove_below, length-remove}
 use Rattle.std.proofs.Math.Seq.{drop-append_seam, take-append_seam}
 use Rattle.folder_forms.specs.LoadOrder.{by_name, is_ready, name_cmp, needs_view}
-use Rattle.load_order.specs.Stages.{IsFirstReady, PutsFirst, against_need, is_named}
+use Rattle.load_order.specs.Stages.{IsFirstReady, PutsFirst, against_need, names_view}
 use Rattle.load_order.proofs.OrderLemmas.{called, name_ranks, need_cmp, need_total}
 use Rattle.server_data.specs.declared.data.Need.{Need}
 use Rattle.server_data.specs.declared.data.Object.{Object}
@@ -56,17 +56,17 @@ is_eq_then Greater other = refl
 pub same_name_eq : (one other : List ℕ) → is_eq (name_cmp one other) ≡ bytes_eq other one
 same_name_eq one other = sym (texts_ties one other) ∙ nat_list_eq_equiv.symm one other
 
-pub named_is : (need : Need) (view : Object) → is_eq (against_need need view) ≡ is_named need view
+pub named_is : (need : Need) (view : Object) → is_eq (against_need need view) ≡ names_view need view
 named_is need view =
     is_eq_then (name_cmp view.schema need.schema) (name_cmp view.name need.name)
     ∙ rw (same_name_eq view.schema need.schema, same_name_eq view.name need.name) refl
 
 -- the search of a need among views that are by name
 pub need_found : (need : Need) (left : List Object) (r : Result ℕ ℕ) → IsSorted by_name left → IsSearchInRange r (length left)
-    → IsBinarySearchResult (against_need need) left r → is_ok r ≡ list_any (is_named need) left
+    → IsBinarySearchResult (against_need need) left r → is_ok r ≡ list_any (names_view need) left
 need_found need left r sorted below is =
     search_finds (against_need need) left r below is (searchable_from_sorted need_total called left need sorted)
-    ∙ any_alike (λ y. is_eq (against_need need y)) (is_named need) (named_is need) left
+    ∙ any_alike (λ y. is_eq (against_need need y)) (names_view need) (named_is need) left
 
 or_false : (a b : Bool) → a ≡ false → b ≡ false → (a || b) ≡ false
 or_false a b e f = rw (e, f) refl
@@ -89,20 +89,20 @@ module _ {X Y : Type 0} where
   any_swap f xs (y ∷ ys) = any_or (f y) (λ x. list_any (λ z. f z x) ys) xs ∙ rw (any_swap f xs ys) refl
 
 -- a view is ready where none of its needs names one of the views
-pub ready_is : (left : List Object) (view : Object) → is_ready left view ≡ not (list_any (λ need. list_any (is_named need) left) view.needs)
-ready_is left view = ap not (any_swap is_named left view.needs)
+pub ready_is : (left : List Object) (view : Object) → is_ready left view ≡ not (list_any (λ need. list_any (names_view need) left) view.needs)
+ready_is left view = ap not (any_swap names_view left view.needs)
 
-pub ready_none : (left : List Object) (view : Object) → list_any (λ need. list_any (is_named need) left) view.needs ≡ false → true ≡ is_ready left view
+pub ready_none : (left : List Object) (view : Object) → list_any (λ need. list_any (names_view need) left) view.needs ≡ false → true ≡ is_ready left view
 ready_none left view none = sym (ready_is left view ∙ ap not none)
 
 pub ready_some : (left : List Object) (view : Object) (i : ℕ) (need : Need) → i < length view.needs → need ≡ get_or view.needs i need
-    → true ≡ list_any (is_named need) left → false ≡ is_ready left view
+    → true ≡ list_any (names_view need) left → false ≡ is_ready left view
 ready_some left view i need below is found =
-    let here : list_any (is_named (get_or view.needs i need)) left ≡ true = rw (← is) (sym found) in
-    sym (ready_is left view ∙ ap not (list_any_at (λ one. list_any (is_named one) left) view.needs i need below here))
+    let here : list_any (names_view (get_or view.needs i need)) left ≡ true = rw (← is) (sym found) in
+    sym (ready_is left view ∙ ap not (list_any_at (λ one. list_any (names_view one) left) view.needs i need below here))
 
 pub ready_all : (left : List Object) (view : Object) (i : ℕ) → length view.needs ≤ i
-    → list_any (λ need. list_any (is_named need) left) (take i view.needs) ≡ false → true ≡ is_ready left view
+    → list_any (λ need. list_any (names_view need) left) (take i view.needs) ≡ false → true ≡ is_ready left view
 ready_all left view i all none = ready_none left view (rw (take_all i view.needs all) at none)
 
 cases : (k i : ℕ) → (k < i) ⊎ (i ≤ k)

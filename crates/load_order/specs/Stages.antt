@@ -1,9 +1,10 @@
 -- What the stages of the sorting leave.
-use Rattle.std.specs.Prelude.{ℕ, ◌≡◌, ◌<◌, Bool, true, false, List, ◌∷◌, ◌++◌, length, Contains, IsPermutation, IsSorted}
+use Rattle.std.specs.Prelude.{ℕ, ◌≡◌, ◌<◌, ◌≤◌, Bool, true, false, List, ◌∷◌, ◌++◌, length, Contains, IsPermutation, IsSorted}
 use Rattle.std.specs.List.{All, AllWithin, HoldsAt, list_any}
 use Rattle.std.specs.Ordering.{nat_cmp, on, ordering_then, then_cmp}
 use Rattle.std.specs.declared.cmp.Ordering.{Ordering}
-use Rattle.folder_forms.specs.LoadOrder.{IsLeastReady, IsViewOrder, by_name, is_ready, name_cmp, table_name, trigger_rank}
+use Rattle.folder_forms.specs.LoadOrder.{IsLeastReady, IsViewOrder, by_name, is_ready, is_view, load_cmp, name_cmp, table_name, trigger_rank}
+use Rattle.server_data.specs.Equal.{kind_number}
 use Rattle.server_data.specs.Fold.{is_need}
 use Rattle.server_data.specs.declared.data.Need.{Need}
 use Rattle.server_data.specs.declared.data.Object.{Object}
@@ -15,8 +16,8 @@ in_schema_cmp =
     (on (λ (object : Object). object.name) name_cmp)
 
 -- the need names the view
-abbrev pub is_named : Need → Object → Bool
-is_named need view = is_need view.schema view.name need
+abbrev pub names_view : Need → Object → Bool
+names_view need view = is_need view.schema view.name need
 
 -- none of these views is ready
 abbrev pub IsStuck : List Object → Type 0
@@ -43,8 +44,8 @@ against_need need view =
     ordering_then (name_cmp view.schema need.schema) (name_cmp view.name need.name)
 
 -- whatever order of those that are left is a view order, after these it is one too
-abbrev pub Completes : List Object → List Object → Type 0
-Completes made left =
+abbrev pub CompletesViewOrder : List Object → List Object → Type 0
+CompletesViewOrder made left =
     (rest : List Object) → IsPermutation left rest → IsViewOrder rest → IsViewOrder (made ++ rest)
 
 -- some of these views wait for each other: each of them needs one of them
@@ -53,3 +54,12 @@ pub record HasStuck (views : List Object) : Type 0 where
   pub some : 0 < length left
   pub among : (view : Object) → Contains left view → Contains views view
   pub stuck : IsStuck left
+
+-- where the views stand among objects that are in order but for them: from the one place to the other
+pub record Parts (objects : List Object) (from to : ℕ) : Type 0 where
+  pub up : IsSorted load_cmp objects
+  pub low : from ≤ to
+  pub high : to ≤ length objects
+  pub front : AllWithin (λ (object : Object). kind_number object.kind < 4) objects 0 from
+  pub middle : AllWithin (λ (object : Object). is_view object ≡ true) objects from to
+  pub back : AllWithin (λ (object : Object). 5 ≤ kind_number object.kind) objects to (length objects)

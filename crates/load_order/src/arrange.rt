@@ -2,7 +2,7 @@
 ghost use Rattle.std.specs.Prelude.{◌≡◌, MatchOption, IsPermutation, IsSorted, true, false};
 ghost use Rattle.std.specs.List.{list_any};
 ghost use Rattle.folder_forms.specs.LoadOrder.{by_name, is_ready, IsViewOrder};
-ghost use Rattle.load_order.specs.Stages.{against_need, is_named, IsFirstReady, HasStuck, IsStuck, PutsFirst};
+ghost use Rattle.load_order.specs.Stages.{against_need, names_view, IsFirstReady, HasStuck, IsStuck, PutsFirst};
 
 use server_data::{Need, Object};
 use std::cmp::Ordering;
@@ -19,7 +19,7 @@ fn against(view: &Object, need: &Need) -> Ordering
 // Whether the need names one of the views, which are by schema and name. Takes no memory.
 fn names_one(left: &[Object], need: &Need) -> bool
     requires { IsSorted by_name left.now }
-    ensures { result ≡ list_any (is_named need.now) left.now }
+    ensures { result ≡ list_any (names_view need.now) left.now }
 {
     left.binary_search_by(|view| against(view, need)).is_ok()
 }

@@ -1,6 +1,6 @@
 //! Which of two objects is loaded first.
 ghost use Rattle.std.specs.Prelude.{◌≡◌, [], IsPermutation, IsSorted};
-ghost use Rattle.folder_forms.specs.LoadOrder.{is_view, load_cmp, table_name, trigger_rank};
+ghost use Rattle.folder_forms.specs.LoadOrder.{load_cmp, table_name, trigger_rank};
 ghost use Rattle.object_forms.specs.declared.kind.Kind.TheVariants.{Trigger};
 ghost use Rattle.server_data.specs.Equal.{kind_eq, kind_number};
 ghost use Rattle.load_order.specs.Stages.{in_schema_cmp};
@@ -79,11 +79,4 @@ pub(crate) fn sort(objects: &mut [Object])
     ensures sorted { IsSorted load_cmp objects.new }
 {
     objects.sort_unstable_by(|one, other| compare(one, other));
-}
-
-/// Whether the object is a view.
-pub(crate) fn is_a_view(object: &Object) -> bool
-    ensures { result ≡ is_view object.now }
-{
-    number_of(object.kind) == 4
 }
