@@ -8,7 +8,7 @@ use Rattle.std.proofs.lemmas.List.Elements.{Contains-append_right}
 use Rattle.std.proofs.lemmas.List.Sorted.{Contains-permutation, IsPermutation-append_right, IsPermutation-cons, IsPermutation-refl, IsPermutation-sym, IsPermutation-trans, list_any-IsPermutation}
 use Rattle.std.proofs.Math.Seq.{drop-append_seam, take-append_seam}
 use Rattle.folder_forms.specs.LoadOrder.{IsLeastReady, IsViewOrder, by_name, is_ready, needs_view}
-use Rattle.load_order.specs.Stages.{CompletesViewOrder, HasStuck, IsStuck, PutsFirst}
+use Rattle.load_order.specs.Stages.{CompletesOrder, HasStuck, IsStuck, PutsFirst}
 use Rattle.server_data.specs.declared.data.Object.{Object}
 
 -- the same of the views in another order
@@ -21,12 +21,12 @@ least_alike left others view moves is = record {
     alike : (other : Object) → is_ready left other ≡ is_ready others other
     alike other = ap not (list_any-IsPermutation (needs_view other) left others moves)
 
-pub starts : (views : List Object) → CompletesViewOrder (take 0 views) (drop 0 views)
+pub starts : (views : List Object) → CompletesOrder (take 0 views) (drop 0 views)
 starts views rest moves order = order
 
 -- one more view stands
 pub one_more : (made left rest : List Object) (view : Object) → IsLeastReady left view → IsPermutation left (view ∷ rest)
-    → CompletesViewOrder made left → CompletesViewOrder (made ++ view ∷ []) rest
+    → CompletesOrder made left → CompletesOrder (made ++ view ∷ []) rest
 one_more made left rest view least same whole others moves order =
     let front = IsPermutation-trans left (view ∷ rest) (view ∷ others) same (IsPermutation-cons view rest others moves) in
     let joined : made ++ view ∷ others ≡ (made ++ view ∷ []) ++ others = sym (append_assoc made (view ∷ []) others) in
@@ -43,7 +43,7 @@ step_parts made rest view done views size is =
 pub record Standing (first views : List Object) (done : ℕ) : Type 0 where
   pub same : IsPermutation first views
   pub sorted : IsSorted by_name (drop done views)
-  pub completes : CompletesViewOrder (take done views) (drop done views)
+  pub completes : CompletesOrder (take done views) (drop done views)
 
 pub standing_first : (views : List Object) → IsSorted by_name views → Standing views views 0
 standing_first views up = record { same = IsPermutation-refl views; sorted = up; completes = starts views }

@@ -44,8 +44,8 @@ against_need need view =
     ordering_then (name_cmp view.schema need.schema) (name_cmp view.name need.name)
 
 -- whatever order of those that are left is a view order, after these it is one too
-abbrev pub CompletesViewOrder : List Object → List Object → Type 0
-CompletesViewOrder made left =
+abbrev pub CompletesOrder : List Object → List Object → Type 0
+CompletesOrder made left =
     (rest : List Object) → IsPermutation left rest → IsViewOrder rest → IsViewOrder (made ++ rest)
 
 -- some of these views wait for each other: each of them needs one of them
@@ -62,4 +62,15 @@ pub record Parts (objects : List Object) (from to : ℕ) : Type 0 where
   pub high : to ≤ length objects
   pub front : AllWithin (λ (object : Object). kind_number object.kind < 4) objects 0 from
   pub middle : AllWithin (λ (object : Object). is_view object ≡ true) objects from to
-  pub back : AllWithin (λ (object : Object). 5 ≤ kind_number object.kind) objects to (length objects)
+  pub back :
+      AllWithin (λ (object : Object). 5 ≤ kind_number object.kind) objects to (length objects)
+
+-- those in front of this place are of kinds before this number's
+abbrev pub KindsBefore : List Object → ℕ → ℕ → Type 0
+KindsBefore objects number at =
+    AllWithin (λ object. kind_number object.kind < number) objects 0 at
+
+-- those from this place on are of this number's kind or later ones
+abbrev pub KindsFrom : List Object → ℕ → ℕ → Type 0
+KindsFrom objects number at =
+    AllWithin (λ object. number ≤ kind_number object.kind) objects at (length objects)

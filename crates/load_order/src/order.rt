@@ -1,9 +1,7 @@
 //! The load order in place.
-ghost use Rattle.std.specs.Prelude.{◌≡◌, ◌≤◌, ◌<◌, length, true, false, IsPermutation, IsSorted};
-ghost use Rattle.std.specs.List.{AllWithin};
+ghost use Rattle.std.specs.Prelude.{◌≡◌, ◌≤◌, length, true, false, IsPermutation, IsSorted};
 ghost use Rattle.folder_forms.specs.LoadOrder.{IsLoadOrder, load_cmp, views_of};
-ghost use Rattle.load_order.specs.Stages.{HasStuck, Parts};
-ghost use Rattle.server_data.specs.Equal.{kind_number};
+ghost use Rattle.load_order.specs.Stages.{HasStuck, KindsBefore, KindsFrom, Parts};
 
 use crate::arrange::arrange;
 use crate::compare::{number_of, sort};
@@ -13,8 +11,8 @@ use server_data::Object;
 fn first_from(objects: &[Object], number: u8) -> usize
     requires { IsSorted load_cmp objects.now }
     ensures within { result ≤ length objects.now }
-    ensures below { AllWithin (λ object. kind_number object.kind < number) objects.now 0 result }
-    ensures above { AllWithin (λ object. number ≤ kind_number object.kind) objects.now result (length objects.now) }
+    ensures below { KindsBefore objects.now number result }
+    ensures above { KindsFrom objects.now number result }
 {
     for (at, object) in objects.iter().enumerate() {
         if number <= number_of(object.kind) {
