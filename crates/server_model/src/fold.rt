@@ -241,7 +241,9 @@ pub(crate) fn takes_row(schema: &[u8], name: &[u8], cells: usize, object: &Objec
     is_object(Kind::Table, schema, name, object) && plain_count(object.columns.as_slice()) == cells
 }
 
-fn plain_count(columns: &[Column]) -> usize
+/// How many cells a row of a table with these columns has: one for each column that isn't generated. Takes
+/// no memory.
+pub fn plain_count(columns: &[Column]) -> usize
     ensures { result ≡ plain_count columns.now }
 {
     columns.iter().filter(|column| is_plain(column)).count()

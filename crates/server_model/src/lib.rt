@@ -17,7 +17,7 @@ mod selection;
 pub use agreement::agree;
 pub use find::{is_object, is_of_table, object_in};
 pub use fitting::may_apply;
-pub use fold::{apply_changes, replay};
+pub use fold::{apply_changes, plain_count, replay};
 pub use names::escaped_length;
 pub use pattern::pattern_matches;
 pub use selection::select;

@@ -1,1 +1,4 @@
 pub mod Alike
+pub mod Filled
+pub mod Kept
+pub mod Keys

@@ -1,3 +1,5 @@
+pub mod Key
 pub mod Laws
 pub mod Read
+pub mod Slots
 pub mod Store

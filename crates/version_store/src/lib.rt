@@ -7,8 +7,13 @@
 //! table, the rows in their order count. The laws say the same by histories.
 #![tactic(auto)]
 
+mod key;
 mod laws;
+mod plain_store;
+mod rows;
+mod slots;
 mod store;
 
 pub use laws::{histories_go_on, histories_tell_what_fits, histories_tell_what_is_read};
+pub use plain_store::PlainStore;
 pub use store::{SnapshotId, Store};
