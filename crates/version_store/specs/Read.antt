@@ -1,5 +1,5 @@
 -- What is read of a table: the rows whose key is inside the bounds, in the order of the key (MySQL 8.0 Reference Manual, 15.2.13 "SELECT Statement").
-use Rattle.std.specs.Prelude.{ℕ, ◌≡◌, ◌^◌, ◌&&◌, nat_lt, is_none, if◌then◌else◌, Bool, List, filter, Option, Some, None, IfSome, IsPermutation, ℤ, pos, negsuc}
+use Rattle.std.specs.Prelude.{ℕ, ◌≡◌, ◌^◌, ◌&&◌, ◌||◌, nat_lt, is_none, is_some, if◌then◌else◌, Bool, false, List, filter, Option, Some, None, IfSome, IsPermutation, ℤ, pos, negsuc}
 use Rattle.std.specs.List.Sorted.{IsSortedByKey, IsStableByKey}
 use Rattle.std.specs.Option.{option_cmp}
 use Rattle.std.specs.Ordering.{int_cmp}
@@ -10,7 +10,7 @@ use Rattle.server_data.specs.declared.data.Database.{Database}
 use Rattle.server_data.specs.declared.data.Need.{Need}
 use Rattle.server_data.specs.declared.data.Object.{Object}
 use Rattle.sql_cells.specs.declared.cell.Cell.{Cell}
-use Rattle.honest_server.specs.Answer.{Bounds, everything, is_above, is_up_to, object_at}
+use Rattle.honest_server.specs.Answer.{Bounds, is_above, is_up_to, object_at}
 use Rattle.honest_server.specs.Columns.{integer_at}
 
 -- the two bounds as one
@@ -67,6 +67,8 @@ ReadsTable database table bounds read =
 abbrev pub ReadsAt : Option Database → Need → Bounds → List (List Cell) → Type 0
 ReadsAt shown table bounds read = IfSome shown (λ database. ReadsTable database table bounds read)
 
--- there are no bounds where the table has no key
-abbrev pub KeepsBounds : Option Object → Bounds → Type 0
-KeepsBounds found bounds = IfSome found (λ object. object.key ≡ None → bounds ≡ everything)
+-- a table may be read inside these bounds: it is there, and where it has no key there are none
+abbrev pub may_read : Option Object → Bounds → Bool
+may_read None bounds = false
+may_read (Some object) bounds =
+    is_some object.key || (is_none bounds.above && is_none bounds.up_to)

@@ -9,7 +9,7 @@ shown_in slots id = option_and_then (λ (slot : Option Database). slot) (slice_g
 
 -- how many slots have a database
 abbrev pub live_in : List (Option Database) → ℕ
-live_in slots = count_by (λ (slot : Option Database). is_some slot) slots
+live_in slots = count_by is_some slots
 
 -- a present database, and slots
 pub record PlainState : Type 0 where

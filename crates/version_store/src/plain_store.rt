@@ -1,12 +1,12 @@
 //! The plainest store.
-ghost use Rattle.std.specs.Prelude.{◌≡◌, [], Some, true, is_some, length, option_and_then, option_copied, IfOk, IfSome};
+ghost use Rattle.std.specs.Prelude.{◌≡◌, [], Some, true, is_some, option_and_then, option_copied, IfOk, IfSome};
 ghost use Rattle.server_data.specs.Fold.{changes_db, empty_db};
-ghost use Rattle.version_store.specs.Read.{ReadsTable, bounds_of, table_in};
-ghost use Rattle.version_store.specs.Slots.{held_by, shown_in};
+ghost use Rattle.version_store.specs.Read.{ReadsTable, bounds_of, may_read, table_in};
+ghost use Rattle.version_store.specs.Slots.{held_by, live_in, shown_in};
 ghost use Rattle.version_store.specs.Store.{fits_in, table_at};
 
 use crate::rows::{Limits, read_rows};
-use crate::slots::{put_into, shown};
+use crate::slots::{live, put_into, shown};
 use crate::store::{SnapshotId, Store};
 use object_forms::Kind;
 use plain_data::{OutOfMemory, PlainList};
@@ -54,12 +54,11 @@ impl PlainStore {
         self.present.objects.as_slice()
     }
 
-    /// How many slots for snapshots there are, which is at least how many snapshots are live. Takes no
-    /// memory.
-    pub fn slots(&self) -> usize
-        ensures { result ≡ length self.now.slots }
+    /// How many snapshots are live. Takes no memory.
+    pub fn live(&self) -> usize
+        ensures { result ≡ live_in self.now.slots }
     {
-        self.slots.as_slice().len()
+        live(self.slots.as_slice())
     }
 
     /// Whether the snapshot is live. Takes no memory.
@@ -74,6 +73,24 @@ impl PlainStore {
         ensures { option_copied result ≡ table_at (held_by self.now) id.number table.now }
     {
         table_of(shown(self.slots.as_slice(), id.number as usize), table)
+    }
+
+    /// Whether `read` may be asked so: the snapshot is live and has the table, and there are no bounds
+    /// where that has no key. Takes no memory.
+    pub fn may_read(
+        &self,
+        id: SnapshotId,
+        table: &Need,
+        above: Option<i128>,
+        upto: Option<i128>,
+    ) -> bool
+        ensures { result
+            ≡ may_read (table_at (held_by self.now) id.number table.now) (bounds_of above upto) }
+    {
+        match self.table(id, table) {
+            None => false,
+            Some(object) => object.key.is_some() || (above.is_none() && upto.is_none()),
+        }
     }
 
     /// The objects at a snapshot. Its condition is that the snapshot is live. Takes no memory.

@@ -1,7 +1,7 @@
 //! The databases of live snapshots, each in the slot of its number.
-ghost use Rattle.std.specs.Prelude.{◌≡◌, ◌<◌, Some, true, is_some, is_none, length, option_copied, slice_set, IfOk, OnErr};
+ghost use Rattle.std.specs.Prelude.{◌≡◌, ◌<◌, Some, true, is_some, is_none, length, if◌then◌else◌, option_copied, slice_set, IfOk, OnErr};
 ghost use Rattle.std.specs.List.{position_or_len};
-ghost use Rattle.version_store.specs.Slots.{PutsInto, shown_in};
+ghost use Rattle.version_store.specs.Slots.{PutsInto, live_in, shown_in};
 
 use plain_data::OutOfMemory;
 use server_data::Database;
@@ -47,4 +47,27 @@ fn empty_place(slots: &[Option<Database>]) -> usize
         left = rest;
     }
     id
+}
+
+// How many slots have a database.
+pub(crate) fn live(slots: &[Option<Database>]) -> usize
+    ensures { result ≡ live_in slots.now }
+{
+    let mut count = 0;
+    let mut left = slots;
+    'slots: while let [slot, rest @ ..] = left {
+        count += one_if(slot);
+        left = rest;
+    }
+    count
+}
+
+// 1 where the slot has a database.
+fn one_if(slot: &Option<Database>) -> usize
+    ensures { result ≡ (if is_some slot.now then 1 else 0) }
+{
+    match slot {
+        None => 0,
+        Some(_) => 1,
+    }
 }

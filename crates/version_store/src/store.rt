@@ -1,6 +1,6 @@
 //! What a store promises.
 ghost use Rattle.std.specs.Prelude.{◌≡◌, ◌<◌, ◌^◌, true, is_some, IfOk, OnOk, OnErr};
-ghost use Rattle.version_store.specs.Read.{KeepsBounds, ReadsAt, bounds_of};
+ghost use Rattle.version_store.specs.Read.{ReadsAt, bounds_of, may_read};
 ghost use Rattle.version_store.specs.Store.{Applies, EndsSnapshot, Held, TakesSnapshot, fits_in, table_at};
 
 use plain_data::OutOfMemory;
@@ -52,9 +52,8 @@ pub trait Store {
         above: Option<i128>,
         upto: Option<i128>,
     ) -> Result<RowList, OutOfMemory>
-        requires there { is_some (table_at (held self.now) id.number table.now) ≡ true }
-        requires bounds { KeepsBounds (table_at (held self.now) id.number table.now)
-            (bounds_of above upto) }
+        requires { may_read (table_at (held self.now) id.number table.now) (bounds_of above upto)
+            ≡ true }
 
         ensures { IfOk result (λ read.
             ReadsAt ((held self.now).shown id.number) table.now (bounds_of above upto) read) };
