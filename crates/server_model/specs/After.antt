@@ -60,8 +60,8 @@ abbrev pub objects_db : Database → List Change → Database
 objects_db database changes = record { objects = objects_after database.objects changes; rows = [] }
 
 -- the other row is this one, in this table
-abbrev pub is_row_of : List ℕ → List ℕ → List Cell → (List ℕ → List ℕ → List Cell → Bool)
-is_row_of schema name row other_schema other_name other =
+abbrev pub is_row_at : List ℕ → List ℕ → List Cell → (List ℕ → List ℕ → List Cell → Bool)
+is_row_at schema name row other_schema other_name other =
     (bytes_eq other_schema schema && bytes_eq other_name name) && row_eq row other
 
 -- how often a row stands in a table after a change, where it stood there so often before
@@ -71,9 +71,9 @@ count_after_one schema name row count (Drop kind other_schema other_name) =
     if kind_eq kind Table && (bytes_eq other_schema schema && bytes_eq other_name name) then 0
     else count
 count_after_one schema name row count (Put other_schema other_name other) =
-    count + (if is_row_of schema name row other_schema other_name other then 1 else 0)
+    count + (if is_row_at schema name row other_schema other_name other then 1 else 0)
 count_after_one schema name row count (Remove other_schema other_name other) =
-    count - (if is_row_of schema name row other_schema other_name other then 1 else 0)
+    count - (if is_row_at schema name row other_schema other_name other then 1 else 0)
 
 -- the same after changes one by one
 abbrev pub count_after : List ℕ → List ℕ → List Cell → ℕ → List Change → ℕ

@@ -5,7 +5,7 @@ ghost use Rattle.object_forms.specs.declared.kind.Kind.TheVariants.{Table};
 ghost use Rattle.server_data.specs.declared.data.Change.TheVariants.{Make, Remove};
 ghost use Rattle.server_data.specs.Bag.{count_of};
 ghost use Rattle.server_data.specs.Fold.{changes_db, fits_row, has_object, has_place, has_schema, may_drop, may_make, rows_of, stands_in, table_of_trigger};
-ghost use Rattle.server_model.specs.After.{any_made, any_stays, count_after, count_after_one, drops, fits_after, has_row_after, is_row_of, is_sought, makes_lasting, objects_after, objects_db, stays};
+ghost use Rattle.server_model.specs.After.{any_made, any_stays, count_after, count_after_one, drops, fits_after, has_row_after, is_row_at, is_sought, makes_lasting, objects_after, objects_db, stays};
 
 use crate::agreement::count_row;
 use crate::equal::{are_bytes, is_kind, is_row};
@@ -322,7 +322,7 @@ fn count_after_one(count: u128, schema: &[u8], name: &[u8], row: &[Cell], change
             table,
             row: other,
         } => {
-            if is_row_of(
+            if is_row_at(
                 schema,
                 name,
                 row,
@@ -340,7 +340,7 @@ fn count_after_one(count: u128, schema: &[u8], name: &[u8], row: &[Cell], change
             table,
             row: other,
         } => {
-            if is_row_of(
+            if is_row_at(
                 schema,
                 name,
                 row,
@@ -357,7 +357,7 @@ fn count_after_one(count: u128, schema: &[u8], name: &[u8], row: &[Cell], change
 }
 
 // The other row is this one, in this table.
-fn is_row_of(
+fn is_row_at(
     schema: &[u8],
     name: &[u8],
     row: &[Cell],
@@ -365,7 +365,7 @@ fn is_row_of(
     other_name: &[u8],
     other: &[Cell],
 ) -> bool
-    ensures { result ≡ is_row_of schema.now name.now row.now other_schema.now other_name.now other.now }
+    ensures { result ≡ is_row_at schema.now name.now row.now other_schema.now other_name.now other.now }
 {
     are_bytes(other_schema, schema) && are_bytes(other_name, name) && is_row(row, other)
 }

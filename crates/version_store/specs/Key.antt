@@ -3,12 +3,14 @@ use Rattle.std.specs.Prelude.{ℕ, if◌then◌else◌, Bool, true, List, filter
 use Rattle.object_forms.specs.declared.shape.Column.{Column}
 use Rattle.plain_data.specs.Byte.{digits_value}
 use Rattle.server_data.specs.Fold.{plain_count}
+use Rattle.server_data.specs.declared.data.Object.{Object}
 use Rattle.sql_cells.specs.Cell.{bytes_of}
 use Rattle.sql_cells.specs.Number.{is_digits}
 use Rattle.sql_cells.specs.declared.cell.Cell.{Cell}
 use Rattle.honest_server.specs.Answer.{Bounds}
 use Rattle.honest_server.specs.Columns.{integer_of}
-use Rattle.version_store.specs.Read.{is_inside, within_i128}
+use Rattle.version_store.specs.Read.{AreRead, bounds_of, is_in_bounds, within_i128}
+use Rattle.version_store.specs.declared.rows.Limits.{Limits}
 
 -- at which place of a row the cell of the column of this index stands
 abbrev pub cell_place : List Column → ℕ → ℕ
@@ -36,8 +38,16 @@ positive_of digits =
 -- the key in the cell at this place is inside the bounds, or there is no place
 abbrev pub is_kept : Option ℕ → Bounds → List Cell → Bool
 is_kept None bounds row = true
-is_kept (Some place) bounds row = is_inside bounds (key_at place row)
+is_kept (Some place) bounds row = is_in_bounds bounds (key_at place row)
 
 -- the rows of which that holds
 abbrev pub rows_kept : Option ℕ → Bounds → List (List Cell) → List (List Cell)
 rows_kept place bounds rows = filter (is_kept place bounds) rows
+
+-- the bounds of these limits
+abbrev pub bounds_in : Limits → Bounds
+bounds_in limits = bounds_of limits.above limits.upto
+
+-- what is read of all rows of a table
+abbrev pub ReadsAs : Object → Bounds → List (List Cell) → List (List Cell) → Type 0
+ReadsAs object bounds rows read = AreRead object.columns object.key bounds rows read

@@ -32,9 +32,9 @@ abbrev pub row_key : List Column → ℕ → List Cell → Option ℤ
 row_key columns index row = within_i128 (integer_at columns index row)
 
 -- the key is greater than the one bound and at most the other, as far as there are bounds; what isn't a number is inside none
-abbrev pub is_inside : Bounds → Option ℤ → Bool
-is_inside bounds None = is_none bounds.above && is_none bounds.up_to
-is_inside bounds (Some number) = is_above bounds.above number && is_up_to bounds.up_to number
+abbrev pub is_in_bounds : Bounds → Option ℤ → Bool
+is_in_bounds bounds None = is_none bounds.above && is_none bounds.up_to
+is_in_bounds bounds (Some number) = is_above bounds.above number && is_up_to bounds.up_to number
 
 -- the same rows stably sorted by their keys: those without one first, and those of equal keys in the order in which they stood
 pub record AreSortedByKey (key : List Cell → Option ℤ) (rows read : List (List Cell)) : Type 0 where
@@ -45,7 +45,7 @@ pub record AreSortedByKey (key : List Cell → Option ℤ) (rows read : List (Li
 -- the rows whose key is inside the bounds
 abbrev pub rows_inside : List Column → ℕ → Bounds → List (List Cell) → List (List Cell)
 rows_inside columns index bounds rows =
-    filter (λ row. is_inside bounds (row_key columns index row)) rows
+    filter (λ row. is_in_bounds bounds (row_key columns index row)) rows
 
 -- what is read of all rows of a table: with a key those inside the bounds, sorted by it, and without one all, in their order
 abbrev pub AreRead : List Column → Option ℕ → Bounds → List (List Cell) → List (List Cell) → Type 0

@@ -39,7 +39,7 @@ pub record Applies (old : Held) (one : Transaction) (new : Held) : Type 0 where
   pub live : new.live ≡ old.live
 
 -- the number was free, and the snapshot of that number shows the present database; nothing else has changed
-pub record TakesSnapshot (old : Held) (id : ℕ) (new : Held) : Type 0 where
+pub record AddsSnapshot (old : Held) (id : ℕ) (new : Held) : Type 0 where
   pub free : old.shown id ≡ None
   pub taken : new.shown id ≡ Some old.present
   pub others : (other : ℕ) → other ≢ id → new.shown other ≡ old.shown other

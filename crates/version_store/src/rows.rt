@@ -2,8 +2,8 @@
 ghost use Rattle.std.specs.Prelude.{◌≡◌, ◌++◌, ◌∷◌, [], filter, if◌then◌else◌, IfOk, OnOk};
 ghost use Rattle.server_data.specs.Fold.{rows_in, rows_of};
 ghost use Rattle.honest_server.specs.Answer.{is_above, is_up_to};
-ghost use Rattle.version_store.specs.Key.{is_kept, key_at, rows_kept};
-ghost use Rattle.version_store.specs.Read.{AreRead, AreSortedByKey, bounds_of, is_inside};
+ghost use Rattle.version_store.specs.Key.{ReadsAs, bounds_in, is_kept, key_at, rows_kept};
+ghost use Rattle.version_store.specs.Read.{AreSortedByKey, is_in_bounds};
 
 use crate::key::{cell_place, key_at};
 use plain_data::{OutOfMemory, PlainList};
@@ -28,8 +28,7 @@ pub(crate) fn read_rows(
     object: &Object,
     limits: Limits,
 ) -> Result<RowList, OutOfMemory>
-    ensures { IfOk result (λ read. AreRead object.now.columns object.now.key
-        (bounds_of limits.above limits.upto)
+    ensures { IfOk result (λ read. ReadsAs object.now (bounds_in limits)
         (rows_of database.now table.now.schema table.now.name) read) }
 {
     let tables = database.rows.as_slice();
@@ -69,7 +68,7 @@ fn rows_kept(
     place: Option<usize>,
     limits: Limits,
 ) -> Result<RowList, OutOfMemory>
-    ensures { IfOk result (λ made. made ≡ rows_kept place (bounds_of limits.above limits.upto)
+    ensures { IfOk result (λ made. made ≡ rows_kept place (bounds_in limits)
         (rows_in table.now.schema table.now.name tables.now)) }
 {
     let mut made = PlainList::new(alloc);
@@ -89,8 +88,7 @@ fn push_table(
     place: Option<usize>,
     limits: Limits,
 ) -> Result<(), OutOfMemory>
-    ensures { OnOk result (made.new ≡ made.old ++ rows_kept place
-        (bounds_of limits.above limits.upto)
+    ensures { OnOk result (made.new ≡ made.old ++ rows_kept place (bounds_in limits)
         (rows_in table.now.schema table.now.name (one.now ∷ []))) }
 {
     if is_of_table(table.schema.as_slice(), table.name.as_slice(), one) {
@@ -109,7 +107,7 @@ fn push_rows(
     limits: Limits,
 ) -> Result<(), OutOfMemory>
     ensures { OnOk result (made.new
-        ≡ made.old ++ rows_kept place (bounds_of limits.above limits.upto) rows.now) }
+        ≡ made.old ++ rows_kept place (bounds_in limits) rows.now) }
 {
     let mut left = rows;
     'rows: while let [row, rest @ ..] = left {
@@ -131,16 +129,16 @@ fn push_if(keeps: bool, rows: &mut RowList, row: &CellList) -> Result<(), OutOfM
 
 // The key in the cell at this place is inside the bounds, or there is no place.
 fn is_kept(place: Option<usize>, limits: Limits, row: &[Cell]) -> bool
-    ensures { result ≡ is_kept place (bounds_of limits.above limits.upto) row.now }
+    ensures { result ≡ is_kept place (bounds_in limits) row.now }
 {
     match place {
         None => true,
-        Some(place) => is_inside(limits, key_at(row, place)),
+        Some(place) => is_in_bounds(limits, key_at(row, place)),
     }
 }
 
-fn is_inside(limits: Limits, key: Option<i128>) -> bool
-    ensures { result ≡ is_inside (bounds_of limits.above limits.upto) key }
+fn is_in_bounds(limits: Limits, key: Option<i128>) -> bool
+    ensures { result ≡ is_in_bounds (bounds_in limits) key }
 {
     match key {
         None => limits.above.is_none() && limits.upto.is_none(),

@@ -1,7 +1,7 @@
 //! What a store promises.
 ghost use Rattle.std.specs.Prelude.{◌≡◌, ◌<◌, ◌^◌, true, is_some, IfOk, OnOk, OnErr};
 ghost use Rattle.version_store.specs.Read.{ReadsAt, bounds_of, may_read};
-ghost use Rattle.version_store.specs.Store.{Applies, EndsSnapshot, Held, TakesSnapshot, fits_in, table_at};
+ghost use Rattle.version_store.specs.Store.{Applies, EndsSnapshot, Held, AddsSnapshot, fits_in, table_at};
 
 use plain_data::OutOfMemory;
 use server_data::{Need, RowList, Transaction};
@@ -36,7 +36,7 @@ pub trait Store {
     fn snapshot(&mut self) -> Result<SnapshotId, OutOfMemory>
         requires { (held self.old).live < 2 ^ 63 }
 
-        ensures ok { IfOk result (λ id. TakesSnapshot (held self.old) id.number (held self.new)) }
+        ensures ok { IfOk result (λ id. AddsSnapshot (held self.old) id.number (held self.new)) }
         ensures err { OnErr result (held self.new ≡ held self.old) };
 
     /// The rows of a table at a snapshot whose key is greater than `above` and at most `upto`, in rising
