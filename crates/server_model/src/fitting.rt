@@ -365,7 +365,8 @@ fn is_row_at(
     other_name: &[u8],
     other: &[Cell],
 ) -> bool
-    ensures { result ≡ is_row_at schema.now name.now row.now other_schema.now other_name.now other.now }
+    ensures { result ≡ is_row_at schema.now name.now row.now
+        other_schema.now other_name.now other.now }
 {
     are_bytes(other_schema, schema) && are_bytes(other_name, name) && is_row(row, other)
 }

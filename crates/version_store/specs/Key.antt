@@ -9,7 +9,7 @@ use Rattle.sql_cells.specs.Number.{is_digits}
 use Rattle.sql_cells.specs.declared.cell.Cell.{Cell}
 use Rattle.honest_server.specs.Answer.{Bounds}
 use Rattle.honest_server.specs.Columns.{integer_of}
-use Rattle.version_store.specs.Read.{AreRead, bounds_of, is_in_bounds, within_i128}
+use Rattle.version_store.specs.Read.{AreRead, two_bounds, is_in_bounds, within_i128}
 use Rattle.version_store.specs.declared.rows.Limits.{Limits}
 
 -- at which place of a row the cell of the column of this index stands
@@ -46,7 +46,7 @@ rows_kept place bounds rows = filter (is_kept place bounds) rows
 
 -- the bounds of these limits
 abbrev pub bounds_in : Limits → Bounds
-bounds_in limits = bounds_of limits.above limits.upto
+bounds_in limits = two_bounds limits.above limits.upto
 
 -- what is read of all rows of a table
 abbrev pub ReadsAs : Object → Bounds → List (List Cell) → List (List Cell) → Type 0

@@ -14,8 +14,8 @@ use Rattle.honest_server.specs.Answer.{Bounds, is_above, is_up_to, object_at}
 use Rattle.honest_server.specs.Columns.{integer_at}
 
 -- the two bounds as one
-abbrev pub bounds_of : Option ℤ → Option ℤ → Bounds
-bounds_of above up_to = record { above = above; up_to = up_to }
+abbrev pub two_bounds : Option ℤ → Option ℤ → Bounds
+two_bounds above up_to = record { above = above; up_to = up_to }
 
 -- a number of 128 bits
 abbrev pub is_i128 : ℤ → Bool

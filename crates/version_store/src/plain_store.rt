@@ -1,7 +1,7 @@
 //! The plainest store.
 ghost use Rattle.std.specs.Prelude.{◌≡◌, [], Some, true, is_some, option_and_then, option_copied, IfOk, IfSome};
 ghost use Rattle.server_data.specs.Fold.{changes_db, empty_db};
-ghost use Rattle.version_store.specs.Read.{ReadsTable, bounds_of, may_read, table_in};
+ghost use Rattle.version_store.specs.Read.{ReadsTable, two_bounds, may_read, table_in};
 ghost use Rattle.version_store.specs.Slots.{held_by, live_in, shown_in};
 ghost use Rattle.version_store.specs.Store.{fits_in, table_at};
 
@@ -85,7 +85,7 @@ impl PlainStore {
         upto: Option<i128>,
     ) -> bool
         ensures { result
-            ≡ may_read (table_at (held_by self.now) id.number table.now) (bounds_of above upto) }
+            ≡ may_read (table_at (held_by self.now) id.number table.now) (two_bounds above upto) }
     {
         match self.table(id, table) {
             None => false,
@@ -180,7 +180,7 @@ fn read_table(
     limits: Limits,
 ) -> Result<RowList, OutOfMemory>
     ensures { IfOk result (λ read.
-        ReadsTable database.now table.now (bounds_of limits.above limits.upto) read) }
+        ReadsTable database.now table.now (two_bounds limits.above limits.upto) read) }
 {
     let objects = database.objects.as_slice();
     let found = object_in(

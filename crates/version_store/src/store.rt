@@ -1,6 +1,6 @@
 //! What a store promises.
 ghost use Rattle.std.specs.Prelude.{◌≡◌, ◌<◌, ◌^◌, true, is_some, IfOk, OnOk, OnErr};
-ghost use Rattle.version_store.specs.Read.{ReadsAt, bounds_of, may_read};
+ghost use Rattle.version_store.specs.Read.{ReadsAt, two_bounds, may_read};
 ghost use Rattle.version_store.specs.Store.{Applies, EndsSnapshot, Held, AddsSnapshot, fits_in, table_at};
 
 use plain_data::OutOfMemory;
@@ -52,11 +52,11 @@ pub trait Store {
         above: Option<i128>,
         upto: Option<i128>,
     ) -> Result<RowList, OutOfMemory>
-        requires { may_read (table_at (held self.now) id.number table.now) (bounds_of above upto)
+        requires { may_read (table_at (held self.now) id.number table.now) (two_bounds above upto)
             ≡ true }
 
         ensures { IfOk result (λ read.
-            ReadsAt ((held self.now).shown id.number) table.now (bounds_of above upto) read) };
+            ReadsAt ((held self.now).shown id.number) table.now (two_bounds above upto) read) };
 
     /// Ends a snapshot. Its condition is that the snapshot is live. The others stay as they are. Takes no
     /// memory.
