@@ -147,7 +147,8 @@ is_only text (piece ∷ next ∷ more) = false
 
 -- a text of this kind is ended by a semicolon: it may be, and is read back so
 abbrev pub is_written_plain : Kind → List ℕ → Bool
-is_written_plain kind text = may_be_plain kind && is_only text (pieces (unread_file (plain_body text)))
+is_written_plain kind text =
+    may_be_plain kind && is_only text (pieces (unread_file (plain_body text)))
 
 -- the text as it is written, ended by a semicolon or not
 abbrev pub IsBodyBy : Bool → List ℕ → List ℕ → Type 0

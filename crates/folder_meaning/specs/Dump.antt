@@ -153,10 +153,11 @@ abbrev pub holds_rows : FileKind → Bool
 holds_rows (Kinds.Object kind) = false
 holds_rows Kinds.Rows = true
 
--- the lines of files that hold rows, and those of files that hold an object
+-- the lines of files that hold rows
 abbrev pub lines_of_rows : List FileLine → List FileLine
 lines_of_rows lines = filter (λ line. holds_rows line.name.kind) lines
 
+-- the lines of files that hold an object
 abbrev pub lines_of_objects : List FileLine → List FileLine
 lines_of_objects lines = filter (λ line. not (holds_rows line.name.kind)) lines
 

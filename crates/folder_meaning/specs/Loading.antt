@@ -25,10 +25,11 @@ use Rattle.statement_forms.specs.declared.command.Command.TheVariants.{CreatePro
 
 -- What a load keeps of its own on the server.
 
--- the names of the tables of progress: that of the marks, and that of the dump's digest
+-- the name of the table of the marks
 abbrev pub marks_table : List ℕ
 marks_table = codes "files"
 
+-- the name of the table of the dump's digest
 abbrev pub digest_table : List ℕ
 digest_table = codes "dump"
 
@@ -185,8 +186,8 @@ pub record IsFreshFor (plan : LoadPlan) (database : Database) : Type 0 where
   pub rows : All (λ rows. ¬ NamesSchema plan rows.table.schema) database.rows
 
 -- The database is the one before the load, which had nothing of the plan, and what the load has made at this stage.
-pub record LoadingAt (files : List File) (plan : LoadPlan) (stage : LoadStage) (before now : Database)
-    : Type 0 where
+pub record LoadingAt (files : List File) (plan : LoadPlan) (stage : LoadStage)
+    (before now : Database) : Type 0 where
   pub fresh : IsFreshFor plan before
   pub added : Database
   pub at_stage : IsAtStage files plan stage added

@@ -5,6 +5,7 @@ use Rattle.object_forms.specs.declared.kind.Kind.{Kind}
 use Rattle.object_forms.specs.declared.kind.Kind.TheVariants.{Schema, Table, Procedure, Function, View, Trigger, Event}
 use Rattle.object_forms.specs.declared.place.Span.{Span}
 use Rattle.server_data.specs.declared.data.Database.{Database}
+use Rattle.server_data.specs.declared.data.Need.{Need}
 use Rattle.server_data.specs.declared.data.Object.{Object}
 use Rattle.server_data.specs.declared.data.TableRows.{TableRows}
 use Rattle.sql_cells.specs.Name.{quoted_name}
@@ -14,7 +15,11 @@ abbrev pub text_named : List ℕ → Option Span → List ℕ → List ℕ
 text_named text None name = text
 text_named text (Some span) name = replaced text span (quoted_name name)
 
--- an object of another schema: the schema itself has its name, also in its text; every other object keeps its own
+-- what is needed, of the schema of this name
+abbrev pub need_in : List ℕ → Need → Need
+need_in name need = record need { schema = name }
+
+-- an object of another schema: the schema itself has its name, also in its text; every other object keeps its own; a trigger's table is in that schema too
 abbrev pub in_schema : List ℕ → Object → Kind → Object
 in_schema name object Schema = record object {
   schema = name;
@@ -25,7 +30,8 @@ in_schema name object Table = record object { schema = name }
 in_schema name object Procedure = record object { schema = name }
 in_schema name object Function = record object { schema = name }
 in_schema name object View = record object { schema = name }
-in_schema name object Trigger = record object { schema = name }
+in_schema name object Trigger =
+    record object { schema = name; needs = map (need_in name) object.needs }
 in_schema name object Event = record object { schema = name }
 
 -- the object as it is made in the schema of this name; in its own schema it stays as it is
