@@ -39,7 +39,7 @@ count_where : (row : List Cell) (b : Bool) (rows : Rows) → count_of row (cond 
 count_where row false rows = count_none row
 count_where row true rows = refl
 
-count_tables : (row : List Cell) (schema name : List ℕ) (front after : List TableRows) → count_of row (rows_in schema name (front ++ after)) ≡ count_of row (rows_in schema name front) + count_of row (rows_in schema name after)
+pub count_tables : (row : List Cell) (schema name : List ℕ) (front after : List TableRows) → count_of row (rows_in schema name (front ++ after)) ≡ count_of row (rows_in schema name front) + count_of row (rows_in schema name after)
 count_tables row schema name [] after = let none = count_none row in omega arith
 count_tables row schema name (one ∷ front) after =
     let whole = count_front row schema name one (front ++ after) in
@@ -105,11 +105,7 @@ no_loads : (files : List File) → Loads files [] (λ schema name row. 0)
 no_loads files = record { rows = []; are_loaded = no_rows; marks = []; are_marked = no_marks; counts = none }
   where
     none : (schema name : List ℕ) (row : List Cell) → 0 ≡ count_of row (rows_in schema name (tables [] []))
-    none schema name row =
-        let front = count_front row schema name (progress_rows marks_table []) [] in
-        let nothing = count_none row in
-        let same = sum_where (is_of_table schema name (progress_rows marks_table [])) 0 0 0 refl in
-        by_test (is_of_table schema name (progress_rows marks_table []))
+    none schema name row = by_test (is_of_table schema name (progress_rows marks_table []))
       where
         by_test : (b : Bool) → 0 ≡ count_of row (cond b [] [])
         by_test false = sym (count_none row)

@@ -1,12 +1,31 @@
 -- Laws of loads. The functions of src/laws.rt are their proofs.
-use Rattle.std.specs.Prelude.{◌≡◌, List, [], ◌∷◌, ◌++◌, flat_map, Some}
-use Rattle.folder_meaning.specs.Loading.{IsInOrder, LoadingAt, PutsFile, loading}
+use Rattle.std.specs.Prelude.{◌≡◌, List, [], ◌∷◌, ◌++◌, flat_map, Contains, Some}
+use Rattle.folder_meaning.specs.Loading.{IsInOrder, IsLoadStep, LoadingAt, PutsFile, LoadStage, loading}
 use Rattle.folder_meaning.specs.Plan.{LoadPlan, PlanLine}
+use Rattle.honest_server.specs.Effect.{HasItsPlace}
+use Rattle.honest_server.specs.WellFormed.{IsWellFormed}
 use Rattle.link_traits.specs.Contents.{File}
-use Rattle.server_data.specs.Fold.{more_db}
+use Rattle.server_data.specs.Fold.{changes_db, more_db}
 use Rattle.server_data.specs.History.{Interleaves}
+use Rattle.server_data.specs.declared.data.Change.{Change}
+use Rattle.server_data.specs.declared.data.Change.TheVariants.{Make}
 use Rattle.server_data.specs.declared.data.Database.{Database}
+use Rattle.server_data.specs.declared.data.Object.{Object}
 use Rattle.server_data.specs.declared.data.Transaction.{Transaction}
+
+-- each object that the changes make has the place that the server gives it: a trigger stands last on its table
+abbrev pub HaveTheirPlaces : Database → List Change → Type 0
+HaveTheirPlaces database changes =
+    (object : Object) → Contains changes (Make object) → HasItsPlace database object object.kind
+
+-- A step leads a load on: what is there after it is a load at the next stage. The database is as an honest server holds it, so that each trigger's table is that
+-- of its text.
+abbrev pub AStepGoesOn : Type 0
+AStepGoesOn = (files : List File) (plan : LoadPlan) (stage next : LoadStage)
+    (before now after : Database) (changes : List Change) → IsWellFormed now →
+    LoadingAt files plan stage before now → IsLoadStep files plan stage changes next →
+    HaveTheirPlaces now changes → changes_db now changes ≡ Some after →
+    LoadingAt files plan next before after
 
 -- each transaction puts the rows and the mark of one of these files, in their order
 pub data PutFiles (files : List File) : List PlanLine → List Transaction → Type 0 where

@@ -1,7 +1,7 @@
-//! Laws of loads: the transactions of several workers, each of which puts the rows and the mark of a file, load
-//! all their files in whatever interleaving.
+//! Laws of loads: a step leads from one stage to the next, and so do the transactions of several workers in
+//! whatever interleaving.
 #![tactic(auto)]
 
 mod laws;
 
-pub use laws::workers_go_on;
+pub use laws::{a_step_goes_on, workers_go_on};
