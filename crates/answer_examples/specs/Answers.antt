@@ -23,12 +23,12 @@ use Rattle.wire_forms.specs.declared.refusal.Refusal.{Refusal}
 use Rattle.wire_forms.specs.declared.short_text.ShortText.{ShortText}
 
 -- a table or another object
-abbrev pub need_of : List ℕ → List ℕ → Need
-need_of schema name = record { schema = schema; name = name }
+abbrev pub a_need : List ℕ → List ℕ → Need
+a_need schema name = record { schema = schema; name = name }
 
 -- the first file of a table's rows
-abbrev pub rows_file : NamedFile
-rows_file = file_of Rows (codes "s") (codes "t") 0
+abbrev pub first_file : NamedFile
+first_file = file_of Rows (codes "s") (codes "t") 0
 
 -- what is reported
 pub record Lines : Type 0 where
@@ -54,19 +54,19 @@ pub record Lines : Type 0 where
       ≡ codes "mydumper: unsupported protocol version 9\n"
   pub garbled : line_of Mydumper (Failed (Protocol (Garbled 78)))
       ≡ codes "mydumper: malformed reply at byte 78\n"
-  pub column : line_of Mydumper (Failed (Object (ColumnUnsupported (need_of (codes "s") (codes "u")) (codes "f") (codes "float"))))
+  pub column : line_of Mydumper (Failed (Object (ColumnUnsupported (a_need (codes "s") (codes "u")) (codes "f") (codes "float"))))
       ≡ codes "mydumper: unsupported column s.u.f of type float\n"
-  pub engine : line_of Mydumper (Failed (Object (EngineUnsupported (need_of (codes "s") (codes "t")) (codes "MyISAM"))))
+  pub engine : line_of Mydumper (Failed (Object (EngineUnsupported (a_need (codes "s") (codes "t")) (codes "MyISAM"))))
       ≡ codes "mydumper: unsupported engine MyISAM of table s.t\n"
   pub long_schema : line_of Mydumper (Failed (Name (NameTooLong (LongSchema (codes "s")))))
       ≡ codes "mydumper: name too long: s\n"
-  pub long_name : line_of Mydumper (Failed (Name (NameTooLong (LongObject (need_of (codes "s") (codes "t"))))))
+  pub long_name : line_of Mydumper (Failed (Name (NameTooLong (LongObject (a_need (codes "s") (codes "t"))))))
       ≡ codes "mydumper: name too long: s.t\n"
-  pub withheld : line_of Mydumper (Failed (Object (TextWithheld (need_of (codes "s") (codes "p")))))
+  pub withheld : line_of Mydumper (Failed (Object (TextWithheld (a_need (codes "s") (codes "p")))))
       ≡ codes "mydumper: no text for s.p\n"
   pub database : line_of Mydumper (Failed (Name (NoSuchDatabase (codes "x"))))
       ≡ codes "mydumper: no such database: x\n"
-  pub table : line_of Mydumper (Failed (Name (NoSuchTable (need_of (codes "s") (codes "x")))))
+  pub table : line_of Mydumper (Failed (Name (NoSuchTable (a_need (codes "s") (codes "x")))))
       ≡ codes "mydumper: no such table: s.x\n"
   pub cycle : line_of Mydumper (Failed (Object (ViewCycle (codes "a" ∷ codes "b" ∷ []))))
       ≡ codes "mydumper: views need each other: a, b\n"
@@ -74,7 +74,7 @@ pub record Lines : Type 0 where
       ≡ codes "mydumper: 67108865 bytes are too long\n"
   pub stream : line_of Mydumper (Failed (Limit StreamTooLong))
       ≡ codes "mydumper: connection carried too many bytes\n"
-  pub chunks : line_of Mydumper (Failed (Limit (TooManyChunks (need_of (codes "s") (codes "t")))))
+  pub chunks : line_of Mydumper (Failed (Limit (TooManyChunks (a_need (codes "s") (codes "t")))))
       ≡ codes "mydumper: too many chunks: s.t\n"
   pub no_metadata : line_of Myloader (Failed (Folder NoMetadata))
       ≡ codes "myloader: no metadata file\n"
@@ -82,11 +82,11 @@ pub record Lines : Type 0 where
       ≡ codes "myloader: bad line 5 in metadata\n"
   pub metadata_version : line_of Myloader (Failed (Folder (WrongVersion 3)))
       ≡ codes "myloader: metadata version 3 is not supported\n"
-  pub missing : line_of Myloader (Failed (Folder (FileMissing rows_file)))
+  pub missing : line_of Myloader (Failed (Folder (FileMissing first_file)))
       ≡ codes "myloader: missing file s.t.00000.sql\n"
-  pub damaged : line_of Myloader (Failed (Folder (FileDamaged rows_file (replicate 20 10) (replicate 20 171))))
+  pub damaged : line_of Myloader (Failed (Folder (FileDamaged first_file (replicate 20 10) (replicate 20 171))))
       ≡ codes "myloader: damaged file s.t.00000.sql: expected 0a0a0a0a0a0a0a0a0a0a0a0a0a0a0a0a0a0a0a0a, found abababababababababababababababababababab\n"
-  pub statement : line_of Myloader (Failed (Folder (BadStatement rows_file 66)))
+  pub statement : line_of Myloader (Failed (Folder (BadStatement first_file 66)))
       ≡ codes "myloader: bad statement in s.t.00000.sql at byte 66\n"
   pub reserved : line_of Myloader (Failed (Name Reserved))
       ≡ codes "myloader: reserved schema name: myloader_progress\n"
@@ -98,22 +98,22 @@ pub record Lines : Type 0 where
       ≡ codes "myloader: target was loaded from another dump: 0f, this is 0a0a0a0a0a0a0a0a0a0a0a0a0a0a0a0a0a0a0a0a\n"
   pub source : line_of Myloader (Failed (Name (NoSuchSource (codes "x"))))
       ≡ codes "myloader: no such database in the dump: x\n"
-  pub rename : line_of Myloader (Failed (Name (CannotRename rows_file)))
+  pub rename : line_of Myloader (Failed (Name (CannotRename first_file)))
       ≡ codes "myloader: cannot load s.t.00000.sql under another database\n"
   pub memory : line_of Mydumper (Failed OutOfMemory)
       ≡ codes "mydumper: out of memory\n"
 
 -- an ERR with this message
-abbrev pub refusal_of : ℕ → List ℕ → ShortText → Refusal
-refusal_of code state message = record { code = code; state = state; message = message }
+abbrev pub an_err : ℕ → List ℕ → ShortText → Refusal
+an_err code state message = record { code = code; state = state; message = message }
 
 -- What is reported of an ERR. A control character in its message is shown as `?`.
 pub record Refusals : Type 0 where
   pub at_login : (message : ShortText) → text_of message ≡ codes "no" →
-      line_of Mydumper (Failed (Refused Connect (refusal_of 1045 (codes "28000") message)))
+      line_of Mydumper (Failed (Refused Connect (an_err 1045 (codes "28000") message)))
       ≡ codes "mydumper: server error 1045 (28000) on CONNECT: no\n"
   pub at_lock : (message : ShortText) → text_of message ≡ codes "Access\tdenied" →
-      line_of Mydumper (Failed (Refused LockInstanceForm (refusal_of 1227 (codes "42000") message)))
+      line_of Mydumper (Failed (Refused LockInstanceForm (an_err 1227 (codes "42000") message)))
       ≡ codes "mydumper: server error 1227 (42000) on LOCK INSTANCE: Access?denied\n"
   pub plugin : (name : ShortText) → text_of name ≡ codes "caching_sha2_password" →
       line_of Mydumper (Failed (Protocol (PluginUnsupported name)))
@@ -126,7 +126,7 @@ pub record Statuses : Type 0 where
   pub full : answer_status (Failed (Folder (NotEmpty (codes "keep.txt")))) ≡ 1
   pub words : answer_status (Failed (CommandLine NotRead)) ≡ 2
   pub refused : (message : ShortText) →
-      answer_status (Failed (Refused Connect (refusal_of 1045 (codes "28000") message))) ≡ 3
+      answer_status (Failed (Refused Connect (an_err 1045 (codes "28000") message))) ≡ 3
   pub link : answer_status (Failed (Outside Link)) ≡ 4
   pub memory : answer_status (Failed OutOfMemory) ≡ 5
   pub reported : status_after_report (Dumped 1 2 3) true ≡ 0
